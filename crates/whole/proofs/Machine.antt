@@ -1,0 +1,44 @@
+-- What the machine's tests of signed numbers say in parts, and that its operations fit.
+use mathlib.Core.Path.{_≡_, refl, sym, ap, subst, _∙_}
+use mathlib.Core.Bool.{Bool, true, false, not}
+use Prim.Native.Nat.{ℕ, zero, suc, _+_, _-_, _*_, _^_, _≤_, _<_}
+use native.Mathlib.Nat.{mul-le-mul}
+use native.Mathlib.Omega.{arith}
+use lib.Dec.{T, ltb, leb, ltb→lt, nltb→le, leb→le}
+use lib.IntN.{ℤ, pos, negsuc, negℤ, natAbs, _+ℤ_, _-ℤ_, _*ℤ_, +ℤ-idl}
+use lib.Signed.{ltZ, leZ, ltZ-yes, ltZ-no, nonNeg, mag}
+use mir.Syntax.{Width}
+use mir.Val.{SFits, toZ, ofZ, hbits}
+use mir.Facts.{toZ-ofZ}
+use Rattle.whole.proofs.Parts.{up, dn, below→, less→, fits-abs, abs-sum, abs-product, abs, abs-le, difference, up-neg, dn-neg}
+
+module _ (w : Width) {x y : ℤ} (fx : SFits w x) (fy : SFits w y) where
+  pub lt-yes : ltZ (toZ w (ofZ w x)) (toZ w (ofZ w y)) ≡ true → up x + dn y < up y + dn x
+  lt-yes e = less→ x y (ltZ-yes (subst T (sym (rw (toZ-ofZ fx, toZ-ofZ fy) at e)) tt))
+
+  pub lt-no : ltZ (toZ w (ofZ w x)) (toZ w (ofZ w y)) ≡ false → up y + dn x ≤ up x + dn y
+  lt-no e = below→ y x (ltZ-no (subst (λ (b : Bool). T (not b)) (sym (rw (toZ-ofZ fx, toZ-ofZ fy) at e)) tt))
+
+pub positive : (x : ℤ) → dn x ≤ up x → T (nonNeg x)
+positive (pos n) h = tt
+positive (negsuc n) h = absurd (omega arith)
+
+pub abs-neg : (x : ℤ) → natAbs (pos 0 -ℤ x) ≡ natAbs x
+abs-neg x = ap natAbs (+ℤ-idl (negℤ x)) ∙ omega (arith, abs (negℤ x), abs x, up-neg x, dn-neg x)
+
+pub abs-difference : (a b : ℤ) → natAbs (a -ℤ b) ≤ natAbs a + natAbs b
+abs-difference a b = abs-le (a -ℤ b) (natAbs a + natAbs b) (omega (arith, difference a b, abs a, abs b)) (omega (arith, difference a b, abs a, abs b))
+
+-- an operation's result fits where bounds on its operands say so
+pub sum-fits : (w : Width) (a b : ℤ) → natAbs a + natAbs b < 2 ^ hbits w → SFits w (a +ℤ b)
+sum-fits w a b h = fits-abs w (a +ℤ b) (omega (arith, abs-sum a b))
+
+pub difference-fits : (w : Width) (a b : ℤ) → natAbs a + natAbs b < 2 ^ hbits w → SFits w (a -ℤ b)
+difference-fits w a b h = fits-abs w (a -ℤ b) (omega (arith, abs-difference a b))
+
+pub product-fits : (w : Width) (a b : ℤ) (m n : ℕ) → natAbs a ≤ m → natAbs b ≤ n → m * n < 2 ^ hbits w → SFits w (a *ℤ b)
+product-fits w a b m n h k l = fits-abs w (a *ℤ b) (omega (arith, abs-product a b, mul-le-mul h k))
+
+-- what the machine reads back of a call's result, whose range is `c .f .ok`
+pub back : (w : Width) (z : ℤ) → mag z < 2 ^ hbits w → toZ w (ofZ w z) ≡ z
+back w z h = toZ-ofZ (record { sfits = h })

@@ -1,0 +1,77 @@
+-- Equations and orders of ℤ by one `omega`: an expression over integers is written once as data, and its two parts are polynomials in the variables' parts, which antt computes.
+use mathlib.Core.Path.{_≡_, refl, sym, ap, ap₂, subst, _∙_}
+use mathlib.Core.List.{List, [], _∷_}
+use Prim.Native.Nat.{ℕ, zero, suc, _+_, _*_, _≤_, _<_}
+use native.Mathlib.Omega.{arith}
+use lib.IntN.{ℤ, pos, negsuc, negℤ, natAbs, _+ℤ_, _-ℤ_, _*ℤ_}
+use lib.Signed.{_≤ℤ_}
+use Rattle.whole.proofs.Parts.{up, dn, same, below, sum, difference, product, up-neg, dn-neg, abs-le}
+
+infixl 6 _⊕_ _⊖_
+infixl 7 _⊗_
+pub data Z : Type 0 where
+  ! : ℕ → Z
+  # : ℤ → Z
+  _⊕_ : Z → Z → Z
+  _⊖_ : Z → Z → Z
+  _⊗_ : Z → Z → Z
+
+abbrev pub at : List ℤ → ℕ → ℤ
+at [] i = pos 0
+at (x ∷ xs) zero = x
+at (x ∷ xs) (suc i) = at xs i
+
+abbrev pub value : Z → List ℤ → ℤ
+value (! i) ρ = at ρ i
+value (# z) ρ = z
+value (a ⊕ b) ρ = value a ρ +ℤ value b ρ
+value (a ⊖ b) ρ = value a ρ -ℤ value b ρ
+value (a ⊗ b) ρ = value a ρ *ℤ value b ρ
+
+-- the two parts, as polynomials
+abbrev mutual
+  pub over : Z → List ℤ → ℕ
+  over (! i) ρ = up (at ρ i)
+  over (# z) ρ = up z
+  over (a ⊕ b) ρ = over a ρ + over b ρ
+  over (a ⊖ b) ρ = over a ρ + under b ρ
+  over (a ⊗ b) ρ = over a ρ * over b ρ + under a ρ * under b ρ
+
+  pub under : Z → List ℤ → ℕ
+  under (! i) ρ = dn (at ρ i)
+  under (# z) ρ = dn z
+  under (a ⊕ b) ρ = under a ρ + under b ρ
+  under (a ⊖ b) ρ = under a ρ + over b ρ
+  under (a ⊗ b) ρ = over a ρ * under b ρ + under a ρ * over b ρ
+
+-- u - d of a product
+through : (ux dx ox nx uy dy oy ny u d : ℕ) → ux + nx ≡ dx + ox → uy + ny ≡ dy + oy → u + (ux * dy + dx * uy) ≡ d + (ux * uy + dx * dy) → u + (ox * ny + nx * oy) ≡ d + (ox * oy + nx * ny)
+through ux dx ox nx uy dy oy ny u d e f g =
+    omega (arith, g, ap (λ (k : ℕ). k * uy) e, ap (λ (k : ℕ). k * dy) e, ap (λ (k : ℕ). k * ox) f, ap (λ (k : ℕ). k * nx) f)
+
+pub sound : (e : Z) (ρ : List ℤ) → up (value e ρ) + under e ρ ≡ dn (value e ρ) + over e ρ
+sound (! i) ρ = omega arith
+sound (# z) ρ = omega arith
+sound (a ⊕ b) ρ = omega (arith, sound a ρ, sound b ρ, sum (value a ρ) (value b ρ))
+sound (a ⊖ b) ρ = omega (arith, sound a ρ, sound b ρ, difference (value a ρ) (value b ρ))
+sound (a ⊗ b) ρ = through _ _ _ _ _ _ _ _ _ _ (sound a ρ) (sound b ρ) (product (value a ρ) (value b ρ))
+
+pub equal : (a b : Z) (ρ : List ℤ) → over a ρ + under b ρ ≡ over b ρ + under a ρ → value a ρ ≡ value b ρ
+equal a b ρ h = same (value a ρ) (value b ρ) (omega (arith, sound a ρ, sound b ρ))
+
+pub at-most : (a b : Z) (ρ : List ℤ) → over a ρ + under b ρ ≤ over b ρ + under a ρ → value a ρ ≤ℤ value b ρ
+at-most a b ρ h = below (value a ρ) (value b ρ) (omega (arith, sound a ρ, sound b ρ))
+
+pub within : (a : Z) (ρ : List ℤ) (e : ℕ) → over a ρ ≤ e + under a ρ → under a ρ ≤ e + over a ρ → natAbs (value a ρ) ≤ e
+within a ρ e h k = abs-le (value a ρ) e (omega (arith, sound a ρ)) (omega (arith, sound a ρ))
+
+-- ---- in use
+assoc : (a b c : ℤ) → a *ℤ b *ℤ c ≡ a *ℤ (b *ℤ c)
+assoc a b c = equal (! 0 ⊗ ! 1 ⊗ ! 2) (! 0 ⊗ (! 1 ⊗ ! 2)) (a ∷ b ∷ c ∷ []) (omega arith)
+
+binomial : (a b : ℤ) → (a +ℤ b) *ℤ (a -ℤ b) ≡ a *ℤ a -ℤ b *ℤ b
+binomial a b = equal ((! 0 ⊕ ! 1) ⊗ (! 0 ⊖ ! 1)) (! 0 ⊗ ! 0 ⊖ ! 1 ⊗ ! 1) (a ∷ b ∷ []) (omega arith)
+
+-- one line's error, put beside the sum's: a * s * d + t * d - (a * x + u)  is  a * (s * d - x) + (t * d - u)
+pub line : (a s t x u d : ℤ) → (a *ℤ s +ℤ t) *ℤ d -ℤ (a *ℤ x +ℤ u) ≡ a *ℤ (s *ℤ d -ℤ x) +ℤ (t *ℤ d -ℤ u)
+line a s t x u d = equal ((! 0 ⊗ ! 1 ⊕ ! 2) ⊗ ! 5 ⊖ (! 0 ⊗ ! 3 ⊕ ! 4)) (! 0 ⊗ (! 1 ⊗ ! 5 ⊖ ! 3) ⊕ (! 2 ⊗ ! 5 ⊖ ! 4)) (a ∷ s ∷ t ∷ x ∷ u ∷ d ∷ []) (omega arith)

@@ -1,0 +1,39 @@
+-- What is known of `nearest`, and all that anything else cites of it: a change of its rule is a change of this file.
+use mathlib.Core.Path.{_≡_, sym, ap, _∙_}
+use Prim.Native.Nat.{ℕ, _+_, _*_, _≤_, _<_}
+use native.Mathlib.Nat.{mul-le-mul-left, lt-of-mul-lt-mul-left}
+use native.Mathlib.Omega.{arith}
+use mathlib.Core.List.{[], _∷_}
+use lib.IntN.{ℤ, pos, natAbs, _+ℤ_, _-ℤ_, _*ℤ_}
+use lib.Signed.{shrZ}
+use Rattle.whole.specs.Nearest.{nearest}
+use Rattle.whole.proofs.Parts.{up, dn, same, sum, difference, product, abs-twice, abs-sum, abs-product, floored, Floor}
+use Rattle.whole.proofs.Ring.{equal, !, _⊕_, _⊖_, _⊗_}
+use Rattle.whole.proofs.Floor.{halved}
+
+-- over an even divisor half of it is added before the floor, as the code has it
+pub nearest-even : (z : ℤ) (h : ℕ) → 0 < h → nearest z (2 * h) ≡ shrZ (z +ℤ pos h) (2 * h)
+unfolding nearest
+nearest-even z h l =
+    let twice : z +ℤ z +ℤ pos (2 * h) ≡ (z +ℤ pos h) +ℤ (z +ℤ pos h) =
+    same (z +ℤ z +ℤ pos (2 * h)) ((z +ℤ pos h) +ℤ (z +ℤ pos h))
+    (omega (arith, sum (z +ℤ z) (pos (2 * h)), sum z z, sum z (pos h), sum (z +ℤ pos h) (z +ℤ pos h))) in
+    ap (λ (x : ℤ). shrZ x (2 * (2 * h))) twice ∙ halved (z +ℤ pos h) (2 * h) (omega arith)
+
+-- the nearest is within one half
+pub nearest-near : (z : ℤ) (n : ℕ) → 0 < n → 2 * natAbs (nearest z n *ℤ pos n -ℤ z) ≤ n
+unfolding nearest
+nearest-near z n l =
+    let s = shrZ (z +ℤ z +ℤ pos n) (2 * n) in
+    let F = floored (z +ℤ z +ℤ pos n) (2 * n) (omega arith) in
+    let P = product s (pos n) in
+    let D = difference (s *ℤ pos n) z in
+    let A = sum (z +ℤ z) (pos n) in
+    let B = sum z z in
+    abs-twice (s *ℤ pos n -ℤ z) n (omega (arith, F .floor)) (omega (arith, F .roof))
+
+-- a rounded sum, nearest(t / n), against the exact u / (n * d): half a unit, and the sum's own error
+pub rounded-near : (t u d : ℤ) (n e : ℕ) → 0 < n → natAbs (t *ℤ d -ℤ u) ≤ e → 2 * natAbs (nearest t n *ℤ pos n *ℤ d -ℤ u) ≤ n * natAbs d + 2 * e
+rounded-near t u d n e l h =
+    rw (equal (! 0 ⊗ ! 1 ⊗ ! 2 ⊖ ! 3) ((! 0 ⊗ ! 1 ⊖ ! 4) ⊗ ! 2 ⊕ (! 4 ⊗ ! 2 ⊖ ! 3)) (nearest t n ∷ pos n ∷ d ∷ u ∷ t ∷ []) (omega arith))
+    (omega (arith, abs-sum ((nearest t n *ℤ pos n -ℤ t) *ℤ d) (t *ℤ d -ℤ u), abs-product (nearest t n *ℤ pos n -ℤ t) d, mul-le-mul-left (natAbs d) (nearest-near t n l)))
