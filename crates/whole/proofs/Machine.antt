@@ -1,10 +1,10 @@
 -- What the machine's tests of signed numbers say in parts, and that its operations fit.
 use mathlib.Core.Path.{_≡_, refl, sym, ap, subst, _∙_}
-use mathlib.Core.Bool.{Bool, true, false, not}
+use mathlib.Core.Bool.{Bool, true, false, not, _&&_}
 use Prim.Native.Nat.{ℕ, zero, suc, _+_, _-_, _*_, _^_, _≤_, _<_}
 use native.Mathlib.Nat.{mul-le-mul}
 use native.Mathlib.Omega.{arith}
-use lib.Dec.{T, ltb, leb, ltb→lt, nltb→le, leb→le}
+use lib.Dec.{T, leb, leb·suc-suc}
 use lib.IntN.{ℤ, pos, negsuc, negℤ, natAbs, _+ℤ_, _-ℤ_, _*ℤ_, +ℤ-idl}
 use lib.Signed.{ltZ, leZ, ltZ-yes, ltZ-no, nonNeg, mag}
 use mir.Syntax.{Width}
@@ -42,3 +42,12 @@ product-fits w a b m n h k l = fits-abs w (a *ℤ b) (omega (arith, abs-product 
 -- what the machine reads back of a call's result, whose range is `c .f .ok`
 pub back : (w : Width) (z : ℤ) → mag z < 2 ^ hbits w → toZ w (ofZ w z) ≡ z
 back w z h = toZ-ofZ (record { sfits = h })
+
+-- a number lies between -(k + 1) and k + 1 where its size is at most k + 1
+pub band : (k : ℕ) (z : ℤ) → (leZ (negsuc k) z && leZ z (pos (suc k))) ≡ leb (natAbs z) (suc k)
+band k (pos n) = refl
+band k (negsuc n) = last (leb n k) ∙ sym (leb·suc-suc n k)
+  where
+    last : (b : Bool) → (b && true) ≡ b
+    last true = refl
+    last false = refl
