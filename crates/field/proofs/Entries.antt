@@ -15,7 +15,7 @@ use mir.Val.{toZ, ofZ}
 use Rattle.whole.proofs.Machine.{back}
 use Rattle.field.specs.Field.{inRange, everyInRange}
 use Rattle.field.specs.Outcome.{corrected}
-use Rattle.field.proofs.Tests.{and-left, and-right}
+use Rattle.whole.proofs.Tests.{and-left, and-right}
 
 every-step : (l : List ℤ) (i : ℕ) → i < length l → everyInRange (drop i l) ≡ (inRange (getD l i (pos 0)) && everyInRange (drop (i + 1) l))
 unfolding everyInRange

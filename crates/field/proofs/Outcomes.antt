@@ -11,7 +11,7 @@ use lib.IntN.{ℤ}
 use lib.ListN.{length}
 use Rattle.field.specs.Field.{size, place, shaped, everyInRange, fieldRefusal}
 use Rattle.field.specs.Outcome.{unlessRefused, Outcome, Gives}
-use Rattle.field.proofs.Tests.{and-left, and-right}
+use Rattle.whole.proofs.Tests.{and-left, and-right}
 
 passed : (a b : Bool) → _≡_ {A = ℕ} (cond a (cond b 0 2) 1) 0 → (a ≡ true) × (b ≡ true)
 passed true true e = (refl, refl)

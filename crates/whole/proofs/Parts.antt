@@ -18,6 +18,15 @@ abbrev pub dn : ℤ → ℕ
 dn (pos n) = 0
 dn (negsuc n) = suc n
 
+-- one part is 0, so that a bound on their difference is one on either
+pub up-le : (a : ℤ) (k : ℕ) → up a ≤ k + dn a → up a ≤ k
+up-le (pos n) k h = omega arith
+up-le (negsuc n) k h = omega arith
+
+pub dn-le : (a : ℤ) (k : ℕ) → dn a ≤ k + up a → dn a ≤ k
+dn-le (pos n) k h = omega arith
+dn-le (negsuc n) k h = omega arith
+
 -- ---- equality and order
 pub same : (a b : ℤ) → up a + dn b ≡ up b + dn a → a ≡ b
 same (pos a) (pos b) e = ap pos (omega arith)

@@ -1,0 +1,92 @@
+// Doodson numbers (001, note to Table 6.2; document 01, "Doodson numbers"): six multipliers in six decimal digits.
+ghost use mathlib.Core.Path.{_≡_};
+ghost use mathlib.Core.Bool.{true};
+ghost use Prim.Native.Nat.{_/_, _%_, _+_, _*_, _≤_};
+ghost use lib.IntN.{pos, natAbs, _+ℤ_, _-ℤ_};
+ghost use Rattle.doodson.specs.Doodson.{writable, other, readDoodson, writeDoodson, tellsRead, tellsWritten};
+use arguments::Multipliers;
+use choices::Refusal;
+
+const LARGEST: u32 = 999999;
+
+pub enum Read {
+    Multipliers(Multipliers),
+    Refused(Refusal),
+}
+
+pub enum Written {
+    Number(u32),
+    Refused(Refusal),
+}
+
+// The digit of a unit as a multiplier, 5 taken off.
+fn multiplier(number: u32, unit: u32) -> i32
+    requires { ⌜ 1 ≤ unit ⌝ }
+    ensures { λ r. ⌜ r ≡ pos (number / unit % 10) -ℤ pos 5 ⌝ }
+{
+    (number / unit % 10) as i32 - 5
+}
+
+// Given: a Doodson number.
+// Answered: its six multipliers.
+// Refused: 10, a number above 999,999.
+pub fn multipliers_of(number: u32) -> Read
+    ensures { λ r. ⌜ tellsRead r ≡ readDoodson number ⌝ }
+{
+    if LARGEST < number {
+        return Read::Refused(Refusal::NotDoodson);
+    }
+    Read::Multipliers(Multipliers {
+        tau: (number / 100000 % 10) as i32,
+        s: multiplier(number, 10000),
+        h: multiplier(number, 1000),
+        p: multiplier(number, 100),
+        np: multiplier(number, 10),
+        ps: multiplier(number, 1),
+    })
+}
+
+// Whether a multiplier other than the first has a digit.
+fn has_digit(n: i32) -> bool
+    ensures { λ r. ⌜ r ≡ other n ⌝ }
+{
+    (-5 <= n) & (n <= 4)
+}
+
+// Whether a number can write the multipliers.
+fn is_writable(n: Multipliers) -> bool
+    ensures { λ r. ⌜ r ≡ writable n ⌝ }
+{
+    (0 <= n.tau)
+        & (n.tau <= 9)
+        & has_digit(n.s)
+        & has_digit(n.h)
+        & has_digit(n.p)
+        & has_digit(n.np)
+        & has_digit(n.ps)
+}
+
+// A number with the digit of one more multiplier after it.
+fn appended(front: u32, n: i32) -> u32
+    requires { ⌜ (front ≤ 99999) × (other n ≡ true) ⌝ }
+    ensures { λ r. ⌜ (r ≡ front * 10 + natAbs (n +ℤ pos 5)) × (r ≤ front * 10 + 9) ⌝ }
+{
+    front * 10 + (n + 5) as u32
+}
+
+// Given: six multipliers.
+// Answered: the Doodson number that writes them.
+// Refused: 10, a first multiplier outside 0..9 or another outside -5..4.
+pub fn number_of(n: Multipliers) -> Written
+    ensures { λ r. ⌜ tellsWritten r ≡ writeDoodson n ⌝ }
+{
+    if is_writable(n) {
+        let two = appended(n.tau as u32, n.s);
+        let three = appended(two, n.h);
+        let four = appended(three, n.p);
+        let five = appended(four, n.np);
+        Written::Number(appended(five, n.ps))
+    } else {
+        Written::Refused(Refusal::NotDoodson)
+    }
+}
