@@ -16,6 +16,10 @@ use Rattle.doodson.specs.declared.Written.the-variants as written
 abbrev pub digit : ℕ → ℕ → ℕ
 digit number k = number / 10 ^ k % 10
 
+-- a number has six digits where it is at most 999,999
+abbrev pub isDoodson : ℕ → Bool
+isDoodson number = leb number 999999
+
 -- six decimal digits, leading zeros kept: n1, n2+5, n3+5, n4+5, n5+5, n6+5
 unfoldable pub multipliersIn : ℕ → Multipliers
 multipliersIn number = record {
@@ -48,7 +52,7 @@ writable n = first (n .tau) && other (n .s) && other (n .h) && other (n .p) && o
 
 -- the two calls: 10 where the number is above 999,999, or cannot write the multipliers
 unfoldable pub readDoodson : ℕ → Told Multipliers
-readDoodson number = cond (leb number 999999) (accepted (multipliersIn number)) (refused 10)
+readDoodson number = cond (isDoodson number) (accepted (multipliersIn number)) (refused 10)
 
 unfoldable pub writeDoodson : Multipliers → Told ℕ
 writeDoodson n = cond (writable n) (accepted (numberOf n)) (refused 10)

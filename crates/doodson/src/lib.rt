@@ -3,11 +3,9 @@ ghost use mathlib.Core.Path.{_≡_};
 ghost use mathlib.Core.Bool.{true};
 ghost use Prim.Native.Nat.{_/_, _%_, _+_, _*_, _≤_};
 ghost use lib.IntN.{pos, natAbs, _+ℤ_, _-ℤ_};
-ghost use Rattle.doodson.specs.Doodson.{writable, other, readDoodson, writeDoodson, tellsRead, tellsWritten};
+ghost use Rattle.doodson.specs.Doodson.{isDoodson, writable, other, readDoodson, writeDoodson, tellsRead, tellsWritten};
 use arguments::Multipliers;
 use choices::Refusal;
-
-const LARGEST: u32 = 999999;
 
 pub enum Read {
     Multipliers(Multipliers),
@@ -17,6 +15,13 @@ pub enum Read {
 pub enum Written {
     Number(u32),
     Refused(Refusal),
+}
+
+// Whether a number has six digits.
+pub fn is_doodson(number: u32) -> bool
+    ensures { λ r. ⌜ r ≡ isDoodson number ⌝ }
+{
+    number <= 999999
 }
 
 // The digit of a unit as a multiplier, 5 taken off.
@@ -33,17 +38,18 @@ fn multiplier(number: u32, unit: u32) -> i32
 pub fn multipliers_of(number: u32) -> Read
     ensures { λ r. ⌜ tellsRead r ≡ readDoodson number ⌝ }
 {
-    if LARGEST < number {
-        return Read::Refused(Refusal::NotDoodson);
+    if is_doodson(number) {
+        Read::Multipliers(Multipliers {
+            tau: (number / 100000 % 10) as i32,
+            s: multiplier(number, 10000),
+            h: multiplier(number, 1000),
+            p: multiplier(number, 100),
+            np: multiplier(number, 10),
+            ps: multiplier(number, 1),
+        })
+    } else {
+        Read::Refused(Refusal::NotDoodson)
     }
-    Read::Multipliers(Multipliers {
-        tau: (number / 100000 % 10) as i32,
-        s: multiplier(number, 10000),
-        h: multiplier(number, 1000),
-        p: multiplier(number, 100),
-        np: multiplier(number, 10),
-        ps: multiplier(number, 1),
-    })
 }
 
 // Whether a multiplier other than the first has a digit.

@@ -1,7 +1,6 @@
 -- Each field is its digit's.
 use borrow.Author.Needs.{needs}
-use borrow.Author.Tests.{lt-leb, le-leb}
-use mathlib.Core.Path.{_≡_, refl, _∙_}
+use mathlib.Core.Path.{_≡_, refl, sym, _∙_}
 use Prim.Native.Nat.{_/_, _%_}
 use native.Mathlib.Omega.{arith}
 use mir.Syntax.{w32}
@@ -11,9 +10,8 @@ use Rattle.doodson.specs.Doodson.{multipliersIn, readDoodson}
 use Rattle.doodson.proofs.multipliers_of.Statement.{statement}
 use Rattle.doodson.proofs.multipliers_of.Tie as tie
 
-returns : tie.Need-returns
-unfolding readDoodson
-returns c = rw (lt-leb (c .before .args .number) 999999 (c .if1 .taken)) refl
+is-doodson-requires : tie.Need-is-doodson-requires
+is-doodson-requires c κs = search needs
 
 cast-t6 : tie.Need-cast-t6
 cast-t6 c = search needs
@@ -33,28 +31,33 @@ multiplier-requires-4 c κs = search needs
 multiplier-requires-5 : tie.Need-multiplier-requires-5
 multiplier-requires-5 c κs = search needs
 
-returns-2 : tie.Need-returns-2
+returns : tie.Need-returns
 unfolding readDoodson multipliersIn
-returns-2 c =
-    let s = c .before .before .before .before .before .before in
-    let number = s .args .number in
+returns c =
+    let a = c .before .before .before .before .before in
+    let number = a .before .before .args .number in
     let m1 = c .before .before .before .before .multiplier in
     let m2 = c .before .before .before .multiplier2 in
     let m3 = c .before .before .multiplier3 in
     let m4 = c .before .multiplier4 in
     let m5 = c .multiplier5 in
-    rw (le-leb number 999999 (c .before .before .before .before .before .if1 .left), toZ-pos w32 {n = number / 100000 % 10} (omega arith), back w32 (m1 .result) (m1 .ok) ∙ m1 .ensures, back w32 (m2 .result) (m2 .ok) ∙ m2 .ensures, back w32 (m3 .result) (m3 .ok) ∙ m3 .ensures, back w32 (m4 .result) (m4 .ok) ∙ m4 .ensures, back w32 (m5 .result) (m5 .ok) ∙ m5 .ensures)
+    rw (sym (a .before .is-doodson .ensures) ∙ a .if1 .taken, toZ-pos w32 {n = number / 100000 % 10} (omega arith), back w32 (m1 .result) (m1 .ok) ∙ m1 .ensures, back w32 (m2 .result) (m2 .ok) ∙ m2 .ensures, back w32 (m3 .result) (m3 .ok) ∙ m3 .ensures, back w32 (m4 .result) (m4 .ok) ∙ m4 .ensures, back w32 (m5 .result) (m5 .ok) ∙ m5 .ensures)
     refl
+
+returns-2 : tie.Need-returns-2
+unfolding readDoodson
+returns-2 c = rw (sym (c .before .is-doodson .ensures) ∙ c .if1 .left) refl
 
 pub multipliers-of-spec : {M : Type 1} → statement M
 multipliers-of-spec =
     tie.close
     (tie.spec
-    returns
+    is-doodson-requires
     cast-t6
     multiplier-requires
     multiplier-requires-2
     multiplier-requires-3
     multiplier-requires-4
     multiplier-requires-5
+    returns
     returns-2)
