@@ -1,0 +1,3 @@
+pub mod Turn
+pub mod Size
+pub mod Cases
