@@ -15,6 +15,7 @@ pub data Z : Type 0 where
   _⊕_ : Z → Z → Z
   _⊖_ : Z → Z → Z
   _⊗_ : Z → Z → Z
+  ⊝ : Z → Z
 
 abbrev pub at : List ℤ → ℕ → ℤ
 at [] i = pos 0
@@ -27,6 +28,7 @@ value (# z) ρ = z
 value (a ⊕ b) ρ = value a ρ +ℤ value b ρ
 value (a ⊖ b) ρ = value a ρ -ℤ value b ρ
 value (a ⊗ b) ρ = value a ρ *ℤ value b ρ
+value (⊝ a) ρ = negℤ (value a ρ)
 
 -- the two parts, as polynomials
 abbrev mutual
@@ -36,6 +38,7 @@ abbrev mutual
   over (a ⊕ b) ρ = over a ρ + over b ρ
   over (a ⊖ b) ρ = over a ρ + under b ρ
   over (a ⊗ b) ρ = over a ρ * over b ρ + under a ρ * under b ρ
+  over (⊝ a) ρ = under a ρ
 
   pub under : Z → List ℤ → ℕ
   under (! i) ρ = dn (at ρ i)
@@ -43,6 +46,7 @@ abbrev mutual
   under (a ⊕ b) ρ = under a ρ + under b ρ
   under (a ⊖ b) ρ = under a ρ + over b ρ
   under (a ⊗ b) ρ = over a ρ * under b ρ + under a ρ * over b ρ
+  under (⊝ a) ρ = over a ρ
 
 -- u - d of a product
 through : (ux dx ox nx uy dy oy ny u d : ℕ) → ux + nx ≡ dx + ox → uy + ny ≡ dy + oy → u + (ux * dy + dx * uy) ≡ d + (ux * uy + dx * dy) → u + (ox * ny + nx * oy) ≡ d + (ox * oy + nx * ny)
@@ -55,6 +59,7 @@ sound (# z) ρ = omega arith
 sound (a ⊕ b) ρ = omega (arith, sound a ρ, sound b ρ, sum (value a ρ) (value b ρ))
 sound (a ⊖ b) ρ = omega (arith, sound a ρ, sound b ρ, difference (value a ρ) (value b ρ))
 sound (a ⊗ b) ρ = through _ _ _ _ _ _ _ _ _ _ (sound a ρ) (sound b ρ) (product (value a ρ) (value b ρ))
+sound (⊝ a) ρ = omega (arith, sound a ρ, up-neg (value a ρ), dn-neg (value a ρ))
 
 pub equal : (a b : Z) (ρ : List ℤ) → over a ρ + under b ρ ≡ over b ρ + under a ρ → value a ρ ≡ value b ρ
 equal a b ρ h = same (value a ρ) (value b ρ) (omega (arith, sound a ρ, sound b ρ))
@@ -64,14 +69,3 @@ at-most a b ρ h = below (value a ρ) (value b ρ) (omega (arith, sound a ρ, so
 
 pub within : (a : Z) (ρ : List ℤ) (e : ℕ) → over a ρ ≤ e + under a ρ → under a ρ ≤ e + over a ρ → natAbs (value a ρ) ≤ e
 within a ρ e h k = abs-le (value a ρ) e (omega (arith, sound a ρ)) (omega (arith, sound a ρ))
-
--- ---- in use
-assoc : (a b c : ℤ) → a *ℤ b *ℤ c ≡ a *ℤ (b *ℤ c)
-assoc a b c = equal (! 0 ⊗ ! 1 ⊗ ! 2) (! 0 ⊗ (! 1 ⊗ ! 2)) (a ∷ b ∷ c ∷ []) (omega arith)
-
-binomial : (a b : ℤ) → (a +ℤ b) *ℤ (a -ℤ b) ≡ a *ℤ a -ℤ b *ℤ b
-binomial a b = equal ((! 0 ⊕ ! 1) ⊗ (! 0 ⊖ ! 1)) (! 0 ⊗ ! 0 ⊖ ! 1 ⊗ ! 1) (a ∷ b ∷ []) (omega arith)
-
--- one line's error, put beside the sum's: a * s * d + t * d - (a * x + u)  is  a * (s * d - x) + (t * d - u)
-pub line : (a s t x u d : ℤ) → (a *ℤ s +ℤ t) *ℤ d -ℤ (a *ℤ x +ℤ u) ≡ a *ℤ (s *ℤ d -ℤ x) +ℤ (t *ℤ d -ℤ u)
-line a s t x u d = equal ((! 0 ⊗ ! 1 ⊕ ! 2) ⊗ ! 5 ⊖ (! 0 ⊗ ! 3 ⊕ ! 4)) (! 0 ⊗ (! 1 ⊗ ! 5 ⊖ ! 3) ⊕ (! 2 ⊗ ! 5 ⊖ ! 4)) (a ∷ s ∷ t ∷ x ∷ u ∷ d ∷ []) (omega arith)

@@ -4,7 +4,7 @@ use Prim.Native.Nat.{ℕ, _+_, _*_, _≤_, _<_}
 use native.Mathlib.Nat.{mul-le-mul-left, lt-of-mul-lt-mul-left}
 use native.Mathlib.Omega.{arith}
 use mathlib.Core.List.{[], _∷_}
-use lib.IntN.{ℤ, pos, natAbs, _+ℤ_, _-ℤ_, _*ℤ_}
+use lib.IntN.{ℤ, pos, natAbs, _+ℤ_, _-ℤ_, _*ℤ_, -ℤ-+ℤ-cancel}
 use lib.Signed.{shrZ}
 use Rattle.whole.specs.Nearest.{nearest}
 use Rattle.whole.proofs.Parts.{up, dn, same, sum, difference, product, abs-twice, abs-sum, abs-product, floored, Floor}
@@ -31,6 +31,15 @@ nearest-near z n l =
     let A = sum (z +ℤ z) (pos n) in
     let B = sum z z in
     abs-twice (s *ℤ pos n -ℤ z) n (omega (arith, F .floor)) (omega (arith, F .roof))
+
+-- the nearest of at most k is at most k
+pub nearest-size : (z : ℤ) (n k : ℕ) → 0 < n → natAbs z ≤ k * n → natAbs (nearest z n) ≤ k
+nearest-size z n k l h =
+    let r = nearest z n in
+    let near : 2 * (natAbs r * n) ≤ 2 * (k * n) + n =
+    omega (arith, nearest-near z n l, abs-product r (pos n), abs-sum (r *ℤ pos n -ℤ z) z, ap natAbs (-ℤ-+ℤ-cancel (r *ℤ pos n) z)) in
+    let strict : n * (2 * natAbs r) < n * (2 * k + 2) = omega (arith, near) in
+    omega (arith, lt-of-mul-lt-mul-left n strict)
 
 -- a rounded sum, nearest(t / n), against the exact u / (n * d): half a unit, and the sum's own error
 pub rounded-near : (t u d : ℤ) (n e : ℕ) → 0 < n → natAbs (t *ℤ d -ℤ u) ≤ e → 2 * natAbs (nearest t n *ℤ pos n *ℤ d -ℤ u) ≤ n * natAbs d + 2 * e
