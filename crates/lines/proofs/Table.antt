@@ -1,12 +1,15 @@
 -- The printed lines as a table: its columns, and its rule.
+use borrow.Author.Tests.{leb-true}
 use mathlib.Core.Path.{_≡_, refl}
 use mathlib.Core.Bool.{Bool, true, _&&_}
 use mathlib.Core.List.{List, [], _∷_, map}
-use Prim.Native.Nat.{ℕ, zero, suc, _/_, _<_}
+use Prim.Native.Nat.{ℕ, zero, suc, _≤_, _<_}
 use native.Mathlib.Nat.{not-suc-le-zero, le-of-suc-le-suc}
 use native.Mathlib.Omega.{arith}
 use lib.Dec.{T, ltb, leb, eqb}
+use lib.IntN.{natAbs}
 use lib.ListN.{length, getD}
+use Rattle.whole.proofs.Tests.{and-left, and-right}
 use Rattle.doodson.specs.Doodson.{isDoodson, digit}
 use Rattle.lines.specs.Lines.{diurnal, longPeriod, semidiurnal, printed, lineAt, nowhere, Printed}
 
@@ -33,3 +36,20 @@ ascending order after (l ∷ ls) =
 pub rule : T (ascending 1 0 diurnal && ascending 0 0 longPeriod && ascending 2 0 semidiurnal)
 unfolding ascending diurnal longPeriod semidiurnal
 rule = tt
+
+-- no amplitude is above 4720
+small : List Printed → Bool
+small [] = true
+small (l ∷ ls) = leb (natAbs (l .first)) 4720 && leb (natAbs (l .second)) 4720 && small ls
+
+each-small : (ls : List Printed) → small ls ≡ true → (i : ℕ) → (natAbs (getD ls i nowhere .first) ≤ 4720) × (natAbs (getD ls i nowhere .second) ≤ 4720)
+unfolding small
+each-small [] e i = (omega arith, omega arith)
+each-small (l ∷ ls) e zero =
+    let two = and-left (leb (natAbs (l .first)) 4720 && leb (natAbs (l .second)) 4720) (small ls) e in
+    (leb-true _ _ (and-left (leb (natAbs (l .first)) 4720) (leb (natAbs (l .second)) 4720) two), leb-true _ _ (and-right (leb (natAbs (l .first)) 4720) (leb (natAbs (l .second)) 4720) two))
+each-small (l ∷ ls) e (suc i) = each-small ls (and-right (leb (natAbs (l .first)) 4720 && leb (natAbs (l .second)) 4720) (small ls) e) i
+
+pub amplitudes-small : (i : ℕ) → (natAbs (lineAt i .first) ≤ 4720) × (natAbs (lineAt i .second) ≤ 4720)
+unfolding small lineAt printed diurnal longPeriod semidiurnal
+amplitudes-small i = each-small printed refl i

@@ -2,12 +2,18 @@
 use mathlib.Core.Path.{_≡_, refl, sym, ap, _∙_}
 use Prim.Native.Nat.{ℕ, zero, suc, _+_, _*_, _≤_, _<_, zero-le}
 use native.Mathlib.Nat.{mul-le-mul-left}
+use native.Mathlib.Numerals.{add-one}
 use native.Mathlib.Omega.{arith}
 use mathlib.Core.List.{[], _∷_}
 use lib.IntN.{ℤ, pos, negℤ, natAbs, _+ℤ_, _-ℤ_, _*ℤ_, zero-*ℤ}
 use Rattle.whole.specs.Sum.{sumTo, weightTo}
 use Rattle.whole.proofs.Parts.{abs-sum, abs-product}
 use Rattle.whole.proofs.Ring.{equal, !, ⊝, _⊕_, _⊖_, _⊗_}
+
+-- one more term, as a loop counts
+pub sum-next : (f : ℕ → ℤ) (n : ℕ) → sumTo f (n + 1) ≡ sumTo f n +ℤ f n
+unfolding sumTo
+sum-next f n = rw (add-one n) refl
 
 -- one term's error beside the sum's: (t + a s) d - (u + a x)  is  (t d - u) + a (s d - x)
 apart : (a s t x u d : ℤ) → (t +ℤ a *ℤ s) *ℤ d -ℤ (u +ℤ a *ℤ x) ≡ (t *ℤ d -ℤ u) +ℤ a *ℤ (s *ℤ d -ℤ x)
@@ -46,3 +52,9 @@ unfolding sumTo weightTo
 sum-size a s e h zero = zero-le
 sum-size a s e h (suc n) =
     omega (arith, abs-sum (sumTo (λ i. a i *ℤ s i) n) (a n *ℤ s n), abs-product (a n) (s n), mul-le-mul-left (natAbs (a n)) (h n), sum-size a s e h n)
+
+-- where each a is at most e, n of them add up to at most n * e
+pub weight-size : (a : ℕ → ℤ) (e : ℕ) → ((i : ℕ) → natAbs (a i) ≤ e) → (n : ℕ) → weightTo a n ≤ n * e
+unfolding weightTo
+weight-size a e h zero = zero-le
+weight-size a e h (suc n) = omega (arith, h n, weight-size a e h n)
