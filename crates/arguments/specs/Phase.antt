@@ -13,5 +13,6 @@ modulo z n = natAbs (z -ℤ shrZ z n *ℤ pos n)
 unfoldable pub phase : Multipliers → Phases → ℕ
 phase m b =
     modulo
-    (m .tau *ℤ pos (b .tau) +ℤ m .s *ℤ pos (b .s) +ℤ m .h *ℤ pos (b .h) +ℤ m .p *ℤ pos (b .p) +ℤ m .np *ℤ pos (b .np) +ℤ m .ps *ℤ pos (b .ps))
+    (m .tau *ℤ pos (b .tau) +ℤ m .s *ℤ pos (b .s) +ℤ m .h *ℤ pos (b .h)
+    +ℤ m .p *ℤ pos (b .p) +ℤ m .np *ℤ pos (b .np) +ℤ m .ps *ℤ pos (b .ps))
     (2 ^ 32)

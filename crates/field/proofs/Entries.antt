@@ -56,3 +56,18 @@ module _ (l : List ℤ) (at : ℕ) (d : ℤ) where
   pub corrected-elsewhere : (k : ℕ) → (k ≡ at → ⊥) → getD (corrected l at d) k (pos 0) ≡ getD l k (pos 0)
   unfolding corrected
   corrected-elsewhere k h = getD-set-other l at k (getD l at (pos 0) +ℤ d) (pos 0) h
+
+-- an entry that is there and in range may be corrected
+pub record Open (l : List ℤ) (k : ℕ) : Type 0 where
+  pub there : k < length l
+  pub small : natAbs (getD l k (pos 0)) ≤ 2 ^ 60
+
+pub open-entry : (l : List ℤ) → everyInRange l ≡ true → (k : ℕ) → k < length l → Open l k
+open-entry l e k h = record { there = h; small = entry-in-range l e k }
+
+-- and still may once another was
+pub open-after : (l l′ : List ℤ) (at : ℕ) (d : ℤ) → l′ ≡ corrected l at d → (k : ℕ) → (k ≡ at → ⊥) → Open l k → Open l′ k
+open-after l l′ at d e k h o = rw e (record {
+  there = omega (arith, corrected-length l at d, o .there);
+  small = rw (corrected-elsewhere l at d k h) (o .small);
+})

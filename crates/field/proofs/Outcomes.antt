@@ -1,8 +1,8 @@
 -- What an accepted field has, and an outcome by its number.
-use mathlib.Core.Path.{_≡_, refl, sym}
+use mathlib.Core.Path.{_≡_, refl}
 use mathlib.Core.Bool.{Bool, true, false, _&&_, cond}
 use mathlib.Core.List.{List}
-use Prim.Native.Nat.{ℕ, suc, _≤_, _<_}
+use Prim.Native.Nat.{ℕ, _≤_, _<_}
 use native.Mathlib.Nat.{mul-le-mul}
 use native.Mathlib.Omega.{arith}
 use borrow.Author.Tests.{leb-true, eqb-true, ne-eqb}
@@ -47,11 +47,12 @@ pub place-below : (N n m : ℕ) → n ≤ N → m ≤ n → place n m < size N
 unfolding place size
 place-below N n m h k = omega (arith, mul-le-mul h h)
 
--- an outcome, where nothing refuses the call and where a number does
-pub gives-new : (number : ℕ) (c s c′ s′ : List ℤ) → number ≡ 0 → Gives (unlessRefused number c s c′ s′) 0 c′ s′
-unfolding unlessRefused
-gives-new number c s c′ s′ e = rw e (record { answer = refl; list-c = refl; list-s = refl })
+-- an outcome, where the answer's number is 0 and where it is another
+module _ (number : ℕ) (c s c′ s′ : List ℤ) where
+  pub gives-new : number ≡ 0 → Gives (unlessRefused number c s c′ s′) number c′ s′
+  unfolding unlessRefused
+  gives-new e = rw e (record { answer = refl; list-c = refl; list-s = refl })
 
-pub gives-kept : (m number : ℕ) (c s c′ s′ : List ℤ) → number ≡ suc m → Gives (unlessRefused number c s c′ s′) (suc m) c s
-unfolding unlessRefused
-gives-kept m number c s c′ s′ e = rw (ne-eqb number 0 (λ q. omega arith)) (record { answer = sym e; list-c = refl; list-s = refl })
+  pub gives-kept : (number ≡ 0 → ⊥) → Gives (unlessRefused number c s c′ s′) number c s
+  unfolding unlessRefused
+  gives-kept n = rw (ne-eqb number 0 n) (record { answer = refl; list-c = refl; list-s = refl })

@@ -1,1 +1,2 @@
 pub mod StepTwo
+pub mod Room

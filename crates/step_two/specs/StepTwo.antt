@@ -66,10 +66,14 @@ corrections b love = record {
   s22 = rounded (sumS22 sin cos b);
 }
 
--- the call over a field: refusals 1, then 2; else the five entries corrected and all others, and S(n,0), equal to before
+-- the corrections of degree two added to a list each, all other entries, and S(n,0), equal to before
+unfoldable pub addedC : List ℤ → Corrections → List ℤ
+addedC c d = corrected (corrected (corrected c (place 2 0) (d .c20)) (place 2 1) (d .c21)) (place 2 2) (d .c22)
+
+unfoldable pub addedS : List ℤ → Corrections → List ℤ
+addedS s d = corrected (corrected s (place 2 1) (d .s21)) (place 2 2) (d .s22)
+
+-- the call over a field: refusals 1, then 2, and none else
 unfoldable pub stepTwo : ℕ → List ℤ → List ℤ → Phases → LoveModel → Outcome
 stepTwo n c s b love =
-    let d = corrections b love in
-    unlessRefused (fieldRefusal n c s) c s
-    (corrected (corrected (corrected c (place 2 0) (d .c20)) (place 2 1) (d .c21)) (place 2 2) (d .c22))
-    (corrected (corrected s (place 2 1) (d .s21)) (place 2 2) (d .s22))
+    unlessRefused (fieldRefusal n c s) c s (addedC c (corrections b love)) (addedS s (corrections b love))

@@ -6,7 +6,8 @@ ghost use Rattle.choices.specs.Numbers.{answerNumber};
 ghost use Rattle.field.specs.Outcome.{Gives};
 ghost use Rattle.wave.specs.Wave.{sin, cos};
 ghost use Rattle.whole.specs.Sum.{sumTo};
-ghost use Rattle.step_two.specs.StepTwo.{inCounts, columnOf, linePhase, sumC20, corrections, stepTwo};
+ghost use Rattle.step_two.specs.StepTwo.{inCounts, columnOf, linePhase, sumC20, corrections, addedC, addedS, stepTwo};
+ghost use Rattle.step_two.specs.Room.{Room, Small};
 use arguments::Phases;
 use choices::Answer;
 use choices::LoveModel;
@@ -103,4 +104,38 @@ pub fn corrections_of(b: Phases, love: LoveModel) -> Corrections
         c22: whole::nearest_30(semidiurnal.cosines),
         s22: whole::nearest_30(-semidiurnal.sines),
     }
+}
+
+// Adds the corrections of C.
+fn add_c(c: &mut [i64], d: Corrections)
+    requires { ⌜ Room (now c) × Small d ⌝ }
+    ensures { λ _. ⌜ now (c .exit) ≡ addedC (now (c .entry)) d ⌝ }
+{
+    field::correct(c, 3, d.c20);
+    field::correct(c, 4, d.c21);
+    field::correct(c, 5, d.c22);
+}
+
+// Adds the corrections of S.
+fn add_s(s: &mut [i64], d: Corrections)
+    requires { ⌜ Room (now s) × Small d ⌝ }
+    ensures { λ _. ⌜ now (s .exit) ≡ addedS (now (s .entry)) d ⌝ }
+{
+    field::correct(s, 4, d.s21);
+    field::correct(s, 5, d.s22);
+}
+
+// Given: a field's degree and its two lent lists, six phases, the Love model.
+// Done: the corrections of C20, C21, S21, C22 and S22 are added; every other entry stays.
+// Refused: 1, the degree or a length; 2, an entry out of range. Nothing is added then.
+pub fn step_two(n: u32, c: &mut [i64], s: &mut [i64], b: Phases, love: LoveModel) -> Answer
+    ensures { λ r. ⌜ Gives (stepTwo n (now (c .entry)) (now (s .entry)) b love) (answerNumber r) (now (c .exit)) (now (s .exit)) ⌝ }
+{
+    let answer = field::tested(n, c, s);
+    if let Answer::Accepted = answer {
+        let d = corrections_of(b, love);
+        add_c(c, d);
+        add_s(s, d);
+    }
+    answer
 }

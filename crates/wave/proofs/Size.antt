@@ -5,10 +5,10 @@ use native.Mathlib.Nat.{mul-le-mul}
 use native.Mathlib.Omega.{arith}
 use lib.IntN.{ℤ, pos, negℤ, natAbs}
 use Rattle.whole.proofs.Parts.{abs, up-neg, dn-neg}
-use Rattle.wave.specs.Wave.{further, angle, square, step, steps, eighth-sine, eighth-cosine, sin, cos}
+use Rattle.wave.specs.Wave.{further, angle, square, step, steps, sine-divisors, eighth-sine, cosine-divisors, eighth-cosine, sin, cos}
 use Rattle.wave.proofs.Turn.{everywhere}
 
-step-size : (y h d : ℕ) → step y h d ≤ 2 ^ 32
+pub step-size : (y h d : ℕ) → step y h d ≤ 2 ^ 32
 unfolding step
 step-size y h d = omega arith
 
@@ -23,11 +23,11 @@ angle-size a h = omega arith
 
 sine-size : (a : ℕ) → a ≤ 2 ^ 29 → eighth-sine a ≤ 2 ^ 30
 unfolding eighth-sine
-sine-size a h = omega (arith, mul-le-mul (angle-size a h) (steps-size (square (angle a)) (2 ^ 32) (omega arith) (110 ∷ 72 ∷ 42 ∷ 20 ∷ 6 ∷ [])))
+sine-size a h = omega (arith, mul-le-mul (angle-size a h) (steps-size (square (angle a)) (2 ^ 32) (omega arith) sine-divisors))
 
 cosine-size : (a : ℕ) → a ≤ 2 ^ 29 → eighth-cosine a ≤ 2 ^ 30
 unfolding eighth-cosine
-cosine-size a h = omega (arith, steps-size (square (angle a)) (2 ^ 32) (omega arith) (132 ∷ 90 ∷ 56 ∷ 30 ∷ 12 ∷ 2 ∷ []))
+cosine-size a h = omega (arith, steps-size (square (angle a)) (2 ^ 32) (omega arith) cosine-divisors)
 
 negated : (z : ℤ) → natAbs z ≤ 2 ^ 30 → natAbs (negℤ z) ≤ 2 ^ 30
 negated z h = omega (arith, abs z, abs (negℤ z), up-neg z, dn-neg z)

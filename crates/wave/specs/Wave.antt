@@ -46,19 +46,26 @@ steps y h [] = h
 steps y h (d ∷ ds) = steps y (step y h d) ds
 
 -- S(a): d = 110, 72, 42, 20, 6; then g = floor((x*h + 2^31)/2^32); answer floor((g+2)/4)
+abbrev pub sine-divisors : List ℕ
+sine-divisors = 110 ∷ 72 ∷ 42 ∷ 20 ∷ 6 ∷ []
+
 unfoldable pub eighth-sine : ℕ → ℕ
 eighth-sine a =
     let x = angle a in
-    let h = steps (square x) (2 ^ 32) (110 ∷ 72 ∷ 42 ∷ 20 ∷ 6 ∷ []) in
+    let h = steps (square x) (2 ^ 32) sine-divisors in
     let g = (x * h + 2 ^ 31) / 2 ^ 32 in
     (g + 2) / 4
 
 -- C(a): d = 132, 90, 56, 30, 12, 2; answer floor((h+2)/4)
+abbrev pub cosine-divisors : List ℕ
+cosine-divisors = 132 ∷ 90 ∷ 56 ∷ 30 ∷ 12 ∷ 2 ∷ []
+
 unfoldable pub eighth-cosine : ℕ → ℕ
 eighth-cosine a =
-    let h = steps (square (angle a)) (2 ^ 32) (132 ∷ 90 ∷ 56 ∷ 30 ∷ 12 ∷ 2 ∷ []) in
+    let h = steps (square (angle a)) (2 ^ 32) cosine-divisors in
     (h + 2) / 4
 
+-- the sine of a phase, and its cosine
 unfoldable pub sin : ℕ → ℤ
 sin t = eighths (λ a. pos (eighth-sine a)) (λ a. pos (eighth-cosine a)) t
 

@@ -1,5 +1,4 @@
 -- Each wrapping add is the sum modulo a turn, and a sum's parts may be reduced before it is taken.
-use borrow.Author.Needs.{needs}
 use mathlib.Core.Path.{_≡_}
 use Prim.Native.Nat.{ℕ, _+_, _%_, _^_, _<_}
 use native.Mathlib.Omega.{arith}
@@ -18,42 +17,9 @@ alone : (m a : ℕ) (k : ℤ) → mag k < 2 ^ 31 → m ≡ modulo (toZ w32 (ofZ 
 alone m a k h e = rw (back w32 k h) at e
 
 -- one argument more
-more : (r s m a : ℕ) (y k : ℤ) → mag k < 2 ^ 31 → s ≡ modulo y (2 ^ 32) → m ≡ modulo (toZ w32 (ofZ w32 k) *ℤ pos a) (2 ^ 32) → r ≡ (s + m) % 2 ^ 32
-    → r ≡ modulo (y +ℤ k *ℤ pos a) (2 ^ 32)
+more : (r s m a : ℕ) (y k : ℤ) → mag k < 2 ^ 31
+    → s ≡ modulo y (2 ^ 32) → m ≡ modulo (toZ w32 (ofZ w32 k) *ℤ pos a) (2 ^ 32) → r ≡ (s + m) % 2 ^ 32 → r ≡ modulo (y +ℤ k *ℤ pos a) (2 ^ 32)
 more r s m a y k h e f g = rw (g, e, alone m a k h f) (modulo-sum (2 ^ 32) (omega arith) y (k *ℤ pos a))
-
-multiple-requires : tie.Need-multiple-requires
-multiple-requires c κs = search needs
-
-multiple-requires-2 : tie.Need-multiple-requires-2
-multiple-requires-2 c κs = search needs
-
-wrapping-add-u32-requires : tie.Need-wrapping-add-u32-requires
-wrapping-add-u32-requires c κs = search needs
-
-multiple-requires-3 : tie.Need-multiple-requires-3
-multiple-requires-3 c κs = search needs
-
-wrapping-add-u32-requires-2 : tie.Need-wrapping-add-u32-requires-2
-wrapping-add-u32-requires-2 c κs = search needs
-
-multiple-requires-4 : tie.Need-multiple-requires-4
-multiple-requires-4 c κs = search needs
-
-wrapping-add-u32-requires-3 : tie.Need-wrapping-add-u32-requires-3
-wrapping-add-u32-requires-3 c κs = search needs
-
-multiple-requires-5 : tie.Need-multiple-requires-5
-multiple-requires-5 c κs = search needs
-
-wrapping-add-u32-requires-4 : tie.Need-wrapping-add-u32-requires-4
-wrapping-add-u32-requires-4 c κs = search needs
-
-multiple-requires-6 : tie.Need-multiple-requires-6
-multiple-requires-6 c κs = search needs
-
-wrapping-add-u32-requires-5 : tie.Need-wrapping-add-u32-requires-5
-wrapping-add-u32-requires-5 c κs = search needs
 
 returns : tie.Need-returns
 unfolding phase
@@ -73,19 +39,11 @@ returns c =
     let s₅ = more _ _ _ (b .np) _ (m .np) (fit .1 .1 .1 .1 .0 .1) s₄ (c₅ .before .multiple5 .ensures) (c₅ .wrapping-add-u324 .ensures) in
     more _ _ _ (b .ps) _ (m .ps) (fit .1 .1 .1 .1 .1 .0 .1) s₅ (c .before .multiple6 .ensures) (c .wrapping-add-u325 .ensures)
 
+-- no callee requires anything
 pub phase-of-spec : {M : Type 1} → statement M
 phase-of-spec =
     tie.close
     (tie.spec
-    multiple-requires
-    multiple-requires-2
-    wrapping-add-u32-requires
-    multiple-requires-3
-    wrapping-add-u32-requires-2
-    multiple-requires-4
-    wrapping-add-u32-requires-3
-    multiple-requires-5
-    wrapping-add-u32-requires-4
-    multiple-requires-6
-    wrapping-add-u32-requires-5
+    (λ c κs. tt) (λ c κs. tt) (λ c κs. tt) (λ c κs. tt) (λ c κs. tt)
+    (λ c κs. tt) (λ c κs. tt) (λ c κs. tt) (λ c κs. tt) (λ c κs. tt) (λ c κs. tt)
     returns)

@@ -1,9 +1,9 @@
 -- Each correction is the nearest of its band's sum.
 use borrow.Author.Needs.{needs}
-use mathlib.Core.Path.{_≡_, refl, sym, ap, _∙_}
-use Prim.Native.Nat.{_^_, _≤_, _<_}
+use mathlib.Core.Path.{_≡_, sym, ap, _∙_}
+use Prim.Native.Nat.{_^_, _<_}
 use native.Mathlib.Omega.{arith}
-use lib.IntN.{ℤ, pos, negℤ, natAbs, _-ℤ_, +ℤ-idl}
+use lib.IntN.{ℤ, pos, negℤ, _-ℤ_, +ℤ-idl}
 use lib.Signed.{mag}
 use mir.Syntax.{w64}
 use mir.Val.{SFits, toZ, ofZ}
@@ -18,7 +18,7 @@ use Rattle.step_two.specs.declared.Column.{Column}
 use Rattle.step_two.specs.declared.Column.the-variants.{First}
 use Rattle.step_two.specs.StepTwo.{columnOf, sumC20, sumC21, sumS21, sumC22, sumS22, rounded, corrections}
 use Rattle.step_two.proofs.Sizes.{total}
-use Rattle.step_two.proofs.Bands.{c21-is, s21-is, c22-is, s22-is, sines-size, cosines-size, c20-size, negated-size, held}
+use Rattle.step_two.proofs.Bands.{c21-is, s21-is, c22-is, s22-is, sines-size, cosines-size, c20-size, c21-size, s21-size, c22-size, s22-size, held}
 use Rattle.step_two.proofs.corrections_of.Statement.{statement}
 use Rattle.step_two.proofs.corrections_of.Tie as tie
 
@@ -64,32 +64,20 @@ module _ (c : tie.After-long-period) where
   s22 : pos 0 -ℤ toZ w64 (ofZ w64 (c .before .band-sums2 .result .sines)) ≡ sumS22 sin cos b
   s22 = +ℤ-idl (negℤ (toZ w64 (ofZ w64 (c .before .band-sums2 .result .sines)))) ∙ ap negℤ semidiurnal ∙ sym (s22-is sin cos b)
 
-  c21-size : natAbs (sumC21 sin cos b love) ≤ 2 ^ 56
-  c21-size = rw (c21-is sin cos b love) (omega (arith, sines-size b 0 (columnOf love) 26 (omega arith)))
-
-  s21-size : natAbs (sumS21 sin cos b love) ≤ 2 ^ 56
-  s21-size = rw (s21-is sin cos b love) (omega (arith, cosines-size b 0 (columnOf love) 26 (omega arith)))
-
-  c22-size : natAbs (sumC22 sin cos b) ≤ 2 ^ 56
-  c22-size = rw (c22-is sin cos b) (omega (arith, cosines-size b 47 First 2 (omega arith)))
-
-  s22-size : natAbs (sumS22 sin cos b) ≤ 2 ^ 56
-  s22-size = rw (s22-is sin cos b) (negated-size (total sin b 47 First 2) (2 ^ 56) (omega (arith, sines-size b 47 First 2 (omega arith))))
-
   s22-held : SFits w64 (sumS22 sin cos b)
-  s22-held = fits-abs w64 (sumS22 sin cos b) (omega (arith, s22-size))
+  s22-held = fits-abs w64 (sumS22 sin cos b) (omega (arith, s22-size b))
 
 nearest-30-requires : tie.Need-nearest-30-requires
 nearest-30-requires c κs = rw (c20 c) (omega (arith, c20-size (b c) (love c)))
 
 nearest-30-requires-2 : tie.Need-nearest-30-requires-2
-nearest-30-requires-2 c κs = let a = c .before .before in rw (c21 a) (omega (arith, c21-size a))
+nearest-30-requires-2 c κs = let a = c .before .before in rw (c21 a) (omega (arith, c21-size (b a) (love a)))
 
 nearest-30-requires-3 : tie.Need-nearest-30-requires-3
-nearest-30-requires-3 c κs = let a = c .before .before .before .before in rw (s21 a) (omega (arith, s21-size a))
+nearest-30-requires-3 c κs = let a = c .before .before .before .before in rw (s21 a) (omega (arith, s21-size (b a) (love a)))
 
 nearest-30-requires-4 : tie.Need-nearest-30-requires-4
-nearest-30-requires-4 c κs = let a = c .before .before .before .before .before .before in rw (c22 a) (omega (arith, c22-size a))
+nearest-30-requires-4 c κs = let a = c .before .before .before .before .before .before in rw (c22 a) (omega (arith, c22-size (b a)))
 
 sub-nearest-30 : tie.Need-sub-nearest-30
 sub-nearest-30 c = let a = c .before .before .before .before .before .before .before .before .before in rw (s22 a) (s22-held a)
@@ -97,7 +85,7 @@ sub-nearest-30 c = let a = c .before .before .before .before .before .before .be
 nearest-30-requires-5 : tie.Need-nearest-30-requires-5
 nearest-30-requires-5 c κs =
     let a = c .before .before .before .before .before .before .before .before .before in
-    rw (s22 a, toZ-ofZ (s22-held a)) (omega (arith, s22-size a))
+    rw (s22 a, toZ-ofZ (s22-held a)) (omega (arith, s22-size (b a)))
 
 -- a rounded sum, handed back
 answer : (r x y : ℤ) → mag r < 2 ^ 63 → r ≡ nearest x (2 ^ 30) → x ≡ y → toZ w64 (ofZ w64 r) ≡ rounded y

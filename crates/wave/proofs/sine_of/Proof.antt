@@ -30,7 +30,7 @@ module _ (c : tie.After-part-of) where
   t = c .before .before .args .phase
 
   value : size ≡ part eighth-sine eighth-cosine (t / 2 ^ 29) (folded (t / 2 ^ 29) (t % 2 ^ 29))
-  value = cc
+  value = c .part-of .ensures .0 ∙ ap (part eighth-sine eighth-cosine (t / 2 ^ 29)) (c .before .folded-of .ensures .0)
 
   negated : SFits w64 (pos 0 -ℤ pos size)
   negated = difference-fits w64 (pos 0) (pos size) (omega arith)

@@ -1,5 +1,4 @@
 -- The square fits 64 bits, and the code is the definition.
-use borrow.Author.Needs.{needs}
 use native.Mathlib.Nat.{mul-le-mul}
 use native.Mathlib.Omega.{arith}
 use Rattle.wave.specs.Wave.{square}

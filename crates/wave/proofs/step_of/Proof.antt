@@ -1,7 +1,7 @@
 -- The product is at most 7/8 of 2^64, so that half the divisor can be added; the quotient is at most 2^32.
 use borrow.Author.Needs.{needs}
-use Prim.Native.Nat.{_<_, _*_}
-use native.Mathlib.Nat.{mul-le-mul, div-le-of-le-mul, mul-le-mul-right}
+use Prim.Native.Nat.{_*_}
+use native.Mathlib.Nat.{mul-le-mul, div-le-of-le-mul}
 use native.Mathlib.Omega.{arith}
 use Rattle.wave.specs.Wave.{step}
 use Rattle.wave.proofs.step_of.Statement.{statement}

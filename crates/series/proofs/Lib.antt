@@ -1,0 +1,5 @@
+pub mod Within
+pub mod Near
+pub mod Steps
+pub mod Bound
+pub mod Sums
