@@ -1,0 +1,2 @@
+pub mod Love
+pub mod Norms

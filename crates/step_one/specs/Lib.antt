@@ -1,0 +1,2 @@
+pub mod StepOne
+pub mod Ready
