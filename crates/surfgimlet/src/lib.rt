@@ -1,0 +1,79 @@
+// Surfgimlet: tide corrections to the coefficients of a gravity field, and the permanent tide of C20. These are all its calls.
+// A field of degree n is two lent lists of counts of 10^-15, C and S, of (n+1)(n+2)/2 entries, place (n,m) at n(n+1)/2+m.
+// A call over a field answers Accepted, or Refused with every entry of both lists as it was.
+ghost use mathlib.Core.Path.{_≡_};
+ghost use Rattle.choices.specs.Numbers.{answerNumber};
+ghost use Rattle.doodson.specs.Doodson.{readDoodson, writeDoodson, tellsRead, tellsWritten};
+ghost use Rattle.field.specs.Outcome.{Gives};
+ghost use Rattle.lines.specs.Lines.{findLine, tells as tellsSought};
+ghost use Rattle.permanent.specs.Systems.{movedC20, tells as tellsMoved};
+ghost use Rattle.step_one.specs.StepOne.{stepOne};
+ghost use Rattle.step_two.specs.StepTwo.{stepTwo};
+use arguments::Multipliers;
+use arguments::Phases;
+use bodies::Body;
+use choices::Answer;
+use choices::LoveModel;
+use choices::PermanentSystem;
+use doodson::Read;
+use doodson::Written;
+use lines::Sought;
+use permanent::Moved;
+
+// Solid tide, step one (001, eqs. 1 to 7; document 01, "Step one").
+// Given: a field, the Moon, the Sun, the Love model.
+// Done: the corrections of degree 2, 3 and 4 are added, the permanent part of C20 left out.
+// Refused: 1, 2, then the Moon's 3, 4, 5, then the Sun's 3, 4, 5, then 6.
+pub fn step_one(
+    n: u32,
+    c: &mut [i64],
+    s: &mut [i64],
+    moon: Body,
+    sun: Body,
+    love: LoveModel,
+) -> Answer
+    ensures { λ r. ⌜ Gives (stepOne n (now (c .entry)) (now (s .entry)) moon sun love) (answerNumber r) (now (c .exit)) (now (s .exit)) ⌝ }
+{
+    step_one::step_one(n, c, s, moon, sun, love)
+}
+
+// Solid tide, step two (001, Tables 6.2; document 01, "Step two").
+// Given: a field, six phases, the Love model.
+// Done: the corrections of C20, C21, S21, C22 and S22 are added.
+// Refused: 1, then 2.
+pub fn step_two(n: u32, c: &mut [i64], s: &mut [i64], b: Phases, love: LoveModel) -> Answer
+    ensures { λ r. ⌜ Gives (stepTwo n (now (c .entry)) (now (s .entry)) b love) (answerNumber r) (now (c .exit)) (now (s .exit)) ⌝ }
+{
+    step_two::step_two(n, c, s, b, love)
+}
+
+// The permanent tide of one C20 (document 01, "Permanent systems").
+// Given: a C20 in counts, the system it is in, the system wanted, the Love model.
+// Answered: the moved C20.
+// Refused: 2.
+pub fn move_c20(c20: i64, from: PermanentSystem, to: PermanentSystem, love: LoveModel) -> Moved
+    ensures { λ r. ⌜ tellsMoved r ≡ movedC20 c20 from to love ⌝ }
+{
+    permanent::move_c20(c20, from, to, love)
+}
+
+// A Doodson number's six multipliers (document 01, "Doodson numbers"). Refused: 10.
+pub fn multipliers_of(number: u32) -> Read
+    ensures { λ r. ⌜ tellsRead r ≡ readDoodson number ⌝ }
+{
+    doodson::multipliers_of(number)
+}
+
+// The Doodson number that writes six multipliers. Refused: 10.
+pub fn number_of(n: Multipliers) -> Written
+    ensures { λ r. ⌜ tellsWritten r ≡ writeDoodson n ⌝ }
+{
+    doodson::number_of(n)
+}
+
+// A printed line by its Doodson number: its index 0..48 and its two printed amplitudes. Refused: 10, then 11.
+pub fn find_line(number: u32) -> Sought
+    ensures { λ r. ⌜ tellsSought r ≡ findLine number ⌝ }
+{
+    lines::find_line(number)
+}
