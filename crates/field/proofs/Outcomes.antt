@@ -47,6 +47,11 @@ pub place-below : (N n m : ℕ) → n ≤ N → m ≤ n → place n m < size N
 unfolding place size
 place-below N n m h k = omega (arith, mul-le-mul h h)
 
+-- degree two stands in every field
+pub degree-two : (n : ℕ) (l : List ℤ) → 4 ≤ n → length l ≡ size n → 5 < length l
+unfolding place
+degree-two n l h e = rw e (place-below n 2 2 (omega arith) (omega arith))
+
 -- an outcome, where the answer's number is 0 and where it is another
 module _ (number : ℕ) (c s c′ s′ : List ℤ) where
   pub gives-new : number ≡ 0 → Gives (unlessRefused number c s c′ s′) number c′ s′

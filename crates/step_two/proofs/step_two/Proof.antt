@@ -1,15 +1,10 @@
 -- A field that passes has degree two's entries in range; a refused one is left alone.
 use borrow.Author.Needs.{needs}
 use mathlib.Core.Path.{_≡_, sym, ap, _∙_}
-use mathlib.Core.List.{List}
-use Prim.Native.Nat.{ℕ, _≤_, _<_}
-use native.Mathlib.Omega.{arith}
-use lib.IntN.{ℤ}
-use lib.ListN.{length}
 use Rattle.choices.specs.Numbers.{answerNumber}
 use Rattle.choices.proofs.Numbers.{refusal-not-zero}
-use Rattle.field.specs.Field.{size, place, fieldRefusal}
-use Rattle.field.proofs.Outcomes.{Accepted, accepted-field, place-below, gives-new, gives-kept}
+use Rattle.field.specs.Field.{fieldRefusal}
+use Rattle.field.proofs.Outcomes.{Accepted, accepted-field, degree-two, gives-new, gives-kept}
 use Rattle.step_two.specs.Room.{Small}
 use Rattle.step_two.specs.StepTwo.{corrections, addedC, addedS, stepTwo}
 use Rattle.step_two.proofs.Bands.{corrections-small}
@@ -24,11 +19,6 @@ enum-told c = search needs
 
 corrections-of-requires : tie.Need-corrections-of-requires
 corrections-of-requires c κs = search needs
-
--- degree two stands in every field
-degree-two : (n : ℕ) (l : List ℤ) → 4 ≤ n → length l ≡ size n → 5 < length l
-unfolding place
-degree-two n l h e = rw e (place-below n 2 2 (omega arith) (omega arith))
 
 -- where the field passed
 module _ (c : tie.After-corrections-of) where

@@ -1,0 +1,1 @@
+-- The first demand, of the calls over a field.
