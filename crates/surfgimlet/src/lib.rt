@@ -6,6 +6,7 @@ ghost use Rattle.choices.specs.Numbers.{answerNumber};
 ghost use Rattle.doodson.specs.Doodson.{readDoodson, writeDoodson, tellsRead, tellsWritten};
 ghost use Rattle.field.specs.Outcome.{Gives};
 ghost use Rattle.lines.specs.Lines.{findLine, tells as tellsSought};
+ghost use Rattle.ocean.specs.Ocean.{oceanTide};
 ghost use Rattle.permanent.specs.Systems.{movedC20, tells as tellsMoved};
 ghost use Rattle.step_one.specs.StepOne.{stepOne};
 ghost use Rattle.step_two.specs.StepTwo.{stepTwo};
@@ -13,6 +14,7 @@ use arguments::Multipliers;
 use arguments::Phases;
 use bodies::Body;
 use choices::Answer;
+use choices::Frame;
 use choices::LoveModel;
 use choices::PermanentSystem;
 use doodson::Read;
@@ -45,6 +47,16 @@ pub fn step_two(n: u32, c: &mut [i64], s: &mut [i64], b: Phases, love: LoveModel
     ensures { λ r. ⌜ Gives (stepTwo n (now (c .entry)) (now (s .entry)) b love) (answerNumber r) (now (c .exit)) (now (s .exit)) ⌝ }
 {
     step_two::step_two(n, c, s, b, love)
+}
+
+// Ocean tide (002; document 01, "Model sheet and ocean tide").
+// Given: a field, a model sheet's bytes, six phases, the frame.
+// Done: the sheet's corrections are added at its places, degree 1 skipped in the centre-of-mass frame.
+// Refused: 1, 2, then the sheet's 7, 8, 9.
+pub fn ocean_tide(n: u32, c: &mut [i64], s: &mut [i64], sheet: &[u8], b: Phases, frame: Frame) -> Answer
+    ensures { λ r. ⌜ Gives (oceanTide n (now (c .entry)) (now (s .entry)) (now (sheet .entry)) b frame) (answerNumber r) (now (c .exit)) (now (s .exit)) ⌝ }
+{
+    ocean::ocean_tide(n, c, s, sheet, b, frame)
 }
 
 // The permanent tide of one C20 (document 01, "Permanent systems").

@@ -1,0 +1,46 @@
+-- A sheet that passes by itself is asked for its degrees; any other keeps its refusal.
+use mathlib.Core.Bool.{cond}
+use mathlib.Core.Path.{_≡_, sym, ap, _∙_}
+use borrow.Author.Needs.{needs}
+use Rattle.choices.specs.Numbers.{answerNumber}
+use Rattle.choices.proofs.Numbers.{refusal-not-zero}
+use Rattle.sheet.specs.Accepted.{reached, ownRefusal, sheetRefusal}
+use Rattle.sheet.proofs.Acceptance.{accepted, first-passed, first-kept}
+use Rattle.accept.proofs.tested.Statement.{statement}
+use Rattle.accept.proofs.tested.Tie as tie
+
+passed : (c : tie.After-enum-told) → ownRefusal (c .before .before .before .before .args .sheet .now) ≡ 0
+passed c = sym (c .before .before .tested-alone .ensures) ∙ ap answerNumber (c .enum-told .given .1)
+
+tested-alone-requires : tie.Need-tested-alone-requires
+tested-alone-requires c κs = search needs
+
+enum-told : tie.Need-enum-told
+enum-told c = search needs
+
+layout-of-requires : tie.Need-layout-of-requires
+layout-of-requires c κs = search needs
+
+is-reached-requires : tie.Need-is-reached-requires
+is-reached-requires c κs = record { laid = c .layout-of .ensures; length = accepted _ (passed (c .before)) .shape .length }
+
+enum-known-why : tie.Need-enum-known-why
+enum-known-why c = search needs
+
+returns : tie.Need-returns
+unfolding sheetRefusal
+returns c = rw (first-passed _ (cond (reached (c .before .before .before .before .before .before .before .args .sheet .now) (c .before .before .before .before .before .before .before .args .n)) 0 9) (passed (c .before .before .before)), sym (c .before .is-reached .ensures) ∙ c .if1 .taken)
+
+returns-2 : tie.Need-returns-2
+unfolding sheetRefusal
+returns-2 c = rw (first-passed _ (cond (reached (c .before .before .before .before .before .before .before .args .sheet .now) (c .before .before .before .before .before .before .before .args .n)) 0 9) (passed (c .before .before .before)), sym (c .before .is-reached .ensures) ∙ c .if1 .left)
+
+returns-3 : tie.Need-returns-3
+unfolding sheetRefusal
+returns-3 c =
+    let why = c .before .why .given in
+    let e = sym (ap answerNumber (why .1)) ∙ c .before .before .before .tested-alone .ensures in
+    e ∙ sym (first-kept _ _ (λ z. refusal-not-zero (why .0 .0) (e ∙ z)))
+
+pub tested-spec : {M : Type 1} → statement M
+tested-spec = tie.close (tie.spec tested-alone-requires enum-told layout-of-requires is-reached-requires enum-known-why returns returns-2 returns-3)

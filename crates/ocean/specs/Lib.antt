@@ -1,0 +1,2 @@
+pub mod Ocean
+pub mod Tided

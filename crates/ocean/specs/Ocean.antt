@@ -1,0 +1,30 @@
+-- Document 01, "Model sheet and ocean tide (002)": the call over a field.
+use mathlib.Core.List.{List}
+use Prim.Native.Nat.{ℕ}
+use lib.IntN.{ℤ}
+use Rattle.arguments.specs.declared.Phases.{Phases}
+use Rattle.choices.specs.declared.Frame.{Frame}
+use Rattle.field.specs.Field.{fieldRefusal}
+use Rattle.field.specs.Outcome.{unlessRefused, Outcome}
+use Rattle.places.specs.Places.{correction, added}
+use Rattle.sheet.specs.Accepted.{first, sheetRefusal}
+use Rattle.sheet.specs.Sheet.{placeCount, cCos, sCos, cSin, sSin}
+use Rattle.tides.specs.Tides.{fcos, fsin}
+
+-- "dC = nearest of (sum over tides of fcos*Ccos + fsin*Csin)/2^30; dS alike", of place j
+unfoldable pub dC : List ℕ → Phases → Frame → ℕ → ℤ
+dC s b frame = correction s frame (fcos s b) (fsin s b) cCos cSin
+
+unfoldable pub dS : List ℕ → Phases → Frame → ℕ → ℤ
+dS s b frame = correction s frame (fcos s b) (fsin s b) sCos sSin
+
+-- refusals 1, 2, 7, 8, 9
+unfoldable pub oceanRefusal : ℕ → List ℤ → List ℤ → List ℕ → ℕ
+oceanRefusal n c s sheet = first (fieldRefusal n c s) (sheetRefusal sheet n)
+
+-- the call over a field: the answer, and every entry of both lists
+unfoldable pub oceanTide : ℕ → List ℤ → List ℤ → List ℕ → Phases → Frame → Outcome
+oceanTide n c s sheet b frame =
+    unlessRefused (oceanRefusal n c s sheet) c s
+    (added sheet (dC sheet b frame) c (placeCount sheet))
+    (added sheet (dS sheet b frame) s (placeCount sheet))

@@ -1,0 +1,4 @@
+pub mod Counted
+pub mod Signs
+pub mod Offsets
+pub mod Acceptance

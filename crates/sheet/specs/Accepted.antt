@@ -1,0 +1,64 @@
+-- Document 01, "Model sheet and ocean tide" and refusals 7, 8 and 9: the sheet that is accepted.
+use mathlib.Core.Bool.{Bool, cond, _&&_, _||_}
+use mathlib.Core.List.{List}
+use Prim.Native.Nat.{ℕ, _+_, _-_, _^_}
+use lib.Dec.{leb, ltb, eqb}
+use lib.IntN.{natAbs}
+use lib.ListN.{length}
+use Rattle.whole.specs.Sum.{weightTo, allTo}
+use Rattle.sheet.specs.Sheet.{lineCount, tideCount, placeCount, endAt, multiplier, admittance, degree, order, sCos, sSin, coefficient}
+
+-- ---- 7: "a section count outside its range, or length not exact"
+-- "Lines (1..128)", "Tides (1..32)", "Places (0..90)", "nothing after"
+unfoldable pub shaped : List ℕ → Bool
+shaped s =
+    leb 1 (lineCount s) && leb (lineCount s) 128
+    && leb 1 (tideCount s) && leb (tideCount s) 32
+    && leb (placeCount s) 90
+    && eqb (length s) (endAt s)
+
+-- ---- 8: "a value or a row's total of absolute values out of range, an S not zero at order 0, or places not ascending"
+-- "six signed bytes, each -13..13"
+unfoldable pub lineValid : List ℕ → ℕ → Bool
+lineValid s f = allTo (λ i. leb (natAbs (multiplier s f i)) 13) 6
+
+-- "absolute values in a row adding to at most 4,000,000"
+unfoldable pub rowValid : List ℕ → ℕ → Bool
+rowValid s k = leb (weightTo (admittance s k) (lineCount s)) 4000000
+
+-- "each within ±2^24; the S ones zero at order 0"
+unfoldable pub countsValid : List ℕ → ℕ → ℕ → Bool
+countsValid s j k =
+    allTo (λ q. leb (natAbs (coefficient s j k q)) (2 ^ 24)) 4
+    && (ltb 0 (order s j) || eqb (natAbs (coefficient s j k sCos)) 0 && eqb (natAbs (coefficient s j k sSin)) 0)
+
+-- "degree byte 1..12, order byte at most the degree; then per tide four signed 32-bit counts"
+unfoldable pub placeValid : List ℕ → ℕ → Bool
+placeValid s j = leb 1 (degree s j) && leb (degree s j) 12 && leb (order s j) (degree s j) && allTo (countsValid s j) (tideCount s)
+
+-- "strictly ascending by degree then order"
+unfoldable pub precedes : List ℕ → ℕ → ℕ → Bool
+precedes s i j = ltb (degree s i) (degree s j) || eqb (degree s i) (degree s j) && ltb (order s i) (order s j)
+
+unfoldable pub ascending : List ℕ → Bool
+ascending s = allTo (λ j. precedes s j (j + 1)) (placeCount s - 1)
+
+unfoldable pub valid : List ℕ → Bool
+valid s = allTo (lineValid s) (lineCount s) && allTo (rowValid s) (tideCount s) && allTo (placeValid s) (placeCount s) && ascending s
+
+-- ---- 9: "a place of degree above N"
+unfoldable pub reached : List ℕ → ℕ → Bool
+reached s n = allTo (λ j. leb (degree s j) n) (placeCount s)
+
+-- ---- "The lowest number that applies to a call is answered", 0 where none does
+-- the first of two refusals, each 0 where it does not apply
+unfoldable pub first : ℕ → ℕ → ℕ
+first a b = cond (eqb a 0) b a
+
+-- what refuses a sheet by itself
+unfoldable pub ownRefusal : List ℕ → ℕ
+ownRefusal s = cond (shaped s) (cond (valid s) 0 8) 7
+
+-- what refuses it for a field of degree n
+unfoldable pub sheetRefusal : List ℕ → ℕ → ℕ
+sheetRefusal s n = first (ownRefusal s) (cond (reached s n) 0 9)

@@ -1,0 +1,3 @@
+pub mod Sheet
+pub mod Accepted
+pub mod Read

@@ -1,0 +1,4 @@
+pub mod Kept
+pub mod Running
+pub mod Sizes
+pub mod Factors

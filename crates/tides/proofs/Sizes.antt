@@ -1,0 +1,32 @@
+-- The sizes of an accepted sheet's sums and factors, which 64 bits hold.
+use mathlib.Core.List.{List}
+use Prim.Native.Nat.{ℕ, _+_, _*_, _^_, _≤_, _<_}
+use native.Mathlib.Nat.{mul-le-mul, mul-le-mul-right}
+use native.Mathlib.Omega.{arith}
+use lib.IntN.{ℤ, natAbs, _*ℤ_}
+use Rattle.whole.specs.Sum.{sumTo}
+use Rattle.whole.proofs.Rounding.{nearest-size}
+use Rattle.sheet.specs.Sheet.{lineCount, tideCount, admittance}
+use Rattle.sheet.proofs.Acceptance.{Accepted}
+use Rattle.sheet.proofs.Counted.{weight-grows}
+use Rattle.tides.specs.Tides.{lineSum, factor}
+use Rattle.tides.proofs.Running.{sum-small}
+
+module _ {s : List ℕ} (A : Accepted s) (w : ℕ → ℤ) (small : (f : ℕ) → f < lineCount s → natAbs (w f) ≤ 2 ^ 30) (k : ℕ) (h : k < tideCount s) where
+  -- any first part of a tide's sum
+  part-size : (n : ℕ) → n ≤ lineCount s → natAbs (sumTo (λ f. admittance s k f *ℤ w f) n) ≤ 4000000 * 2 ^ 30
+  part-size n l =
+      omega (arith, sum-small (admittance s k) w (2 ^ 30) n (λ f g. small f (omega arith)), mul-le-mul-right (2 ^ 30) (weight-grows (admittance s k) n (lineCount s) l), A .row k h)
+
+  pub line-room : (f : ℕ) → f < lineCount s → natAbs (admittance s k f) ≤ 2 ^ 31
+      → natAbs (sumTo (λ f. admittance s k f *ℤ w f) f) + natAbs (admittance s k f) * natAbs (w f) < 2 ^ 63
+  line-room f l m = omega (arith, part-size f (omega arith), mul-le-mul m (small f l))
+
+  pub line-size : natAbs (lineSum s w k) ≤ 4000000 * 2 ^ 30
+  unfolding lineSum
+  line-size = part-size (lineCount s) (omega arith)
+
+  -- at most four times 2^30: a factor is the row's admittance in ones, in units of 2^-30
+  pub factor-size : natAbs (factor s w k) ≤ 2 ^ 32
+  unfolding factor
+  factor-size = nearest-size (lineSum s w k) (10 ^ 6) (2 ^ 32) (omega arith) (omega (arith, line-size))
