@@ -1,22 +1,17 @@
 -- What an accepted field has, and an outcome by its number.
-use mathlib.Core.Path.{_≡_, refl}
-use mathlib.Core.Bool.{Bool, true, false, _&&_, cond}
+use mathlib.Core.Path.{_≡_, refl, sym}
+use mathlib.Core.Bool.{Bool, true, false, cond}
 use mathlib.Core.List.{List}
 use Prim.Native.Nat.{ℕ, _≤_, _<_}
 use native.Mathlib.Nat.{mul-le-mul}
 use native.Mathlib.Omega.{arith}
-use borrow.Author.Tests.{leb-true, eqb-true, ne-eqb}
-use lib.Dec.{leb, eqb}
+use borrow.Author.Tests.{eqb-true, ne-eqb}
+use lib.Dec.{eqb}
 use lib.IntN.{ℤ}
 use lib.ListN.{length}
-use Rattle.field.specs.Field.{size, place, shaped, everyInRange, fieldRefusal}
+use Rattle.field.specs.Field.{size, place, everyInRange, fieldRefusal}
 use Rattle.field.specs.Outcome.{unlessRefused, Outcome, Gives}
-use Rattle.whole.proofs.Tests.{and-left, and-right}
-
-passed : (a b : Bool) → _≡_ {A = ℕ} (cond a (cond b 0 2) 1) 0 → (a ≡ true) × (b ≡ true)
-passed true true e = (refl, refl)
-passed true false e = absurd (let z : _≡_ {A = ℕ} 2 0 = e in omega arith)
-passed false b e = absurd (let z : _≡_ {A = ℕ} 1 0 = e in omega arith)
+use Rattle.field.proofs.Table.{field-table, all-in}
 
 -- a field that is not refused
 pub record Accepted (n : ℕ) (c s : List ℤ) : Type 0 where
@@ -28,18 +23,15 @@ pub record Accepted (n : ℕ) (c s : List ℤ) : Type 0 where
   pub s-range : everyInRange s ≡ true
 
 pub accepted-field : (n : ℕ) (c s : List ℤ) → fieldRefusal n c s ≡ 0 → Accepted n c s
-unfolding fieldRefusal shaped
 accepted-field n c s e =
-    let p = passed (shaped n c s) (everyInRange c && everyInRange s) e in
-    let three = and-left (leb 4 n && leb n 60 && eqb (length c) (size n)) (eqb (length s) (size n)) (p .0) in
-    let two = and-left (leb 4 n && leb n 60) (eqb (length c) (size n)) three in
+    let t = field-table n c s .0 .0 e in
     record {
-      least = leb-true 4 n (and-left (leb 4 n) (leb n 60) two);
-      largest = leb-true n 60 (and-right (leb 4 n) (leb n 60) two);
-      c-size = eqb-true _ _ (and-right (leb 4 n && leb n 60) (eqb (length c) (size n)) three);
-      s-size = eqb-true _ _ (and-right (leb 4 n && leb n 60 && eqb (length c) (size n)) (eqb (length s) (size n)) (p .0));
-      c-range = and-left (everyInRange c) (everyInRange s) (p .1);
-      s-range = and-right (everyInRange c) (everyInRange s) (p .1);
+      least = t .0 .least;
+      largest = t .0 .largest;
+      c-size = t .0 .c-size;
+      s-size = t .0 .s-size;
+      c-range = all-in c (t .1 .0 .entry);
+      s-range = all-in s (t .1 .1 .entry);
     }
 
 -- a place of a degree up to N stands in the list
@@ -61,3 +53,15 @@ module _ (number : ℕ) (c s c′ s′ : List ℤ) where
   pub gives-kept : (number ≡ 0 → ⊥) → Gives (unlessRefused number c s c′ s′) number c s
   unfolding unlessRefused
   gives-kept n = rw (ne-eqb number 0 n) (record { answer = refl; list-c = refl; list-s = refl })
+
+  -- the outcome's number is the refusal's; and where it is not 0, both lists are as they were
+  pub outcome-number : unlessRefused number c s c′ s′ .number ≡ number
+  unfolding unlessRefused
+  outcome-number = go (eqb number 0) refl
+    where
+      go : (b : Bool) → eqb number 0 ≡ b → cond {A = Outcome} b (record { number = 0; c = c′; s = s′ }) (record { number = number; c = c; s = s }) .number ≡ number
+      go true e = sym (eqb-true number 0 e)
+      go false e = refl
+
+  pub refused-untouched : (number ≡ 0 → ⊥) → (unlessRefused number c s c′ s′ .c ≡ c) × (unlessRefused number c s c′ s′ .s ≡ s)
+  refused-untouched n = let g = gives-kept n in (sym (g .list-c), sym (g .list-s))

@@ -53,7 +53,14 @@ pub fn step_two(n: u32, c: &mut [i64], s: &mut [i64], b: Phases, love: LoveModel
 // Given: a field, a model sheet's bytes, six phases, the frame.
 // Done: the sheet's corrections are added at its places, degree 1 skipped in the centre-of-mass frame.
 // Refused: 1, 2, then the sheet's 7, 8, 9.
-pub fn ocean_tide(n: u32, c: &mut [i64], s: &mut [i64], sheet: &[u8], b: Phases, frame: Frame) -> Answer
+pub fn ocean_tide(
+    n: u32,
+    c: &mut [i64],
+    s: &mut [i64],
+    sheet: &[u8],
+    b: Phases,
+    frame: Frame,
+) -> Answer
     ensures { λ r. ⌜ Gives (oceanTide n (now (c .entry)) (now (s .entry)) (now (sheet .entry)) b frame) (answerNumber r) (now (c .exit)) (now (s .exit)) ⌝ }
 {
     ocean::ocean_tide(n, c, s, sheet, b, frame)
