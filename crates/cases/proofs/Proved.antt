@@ -1,0 +1,23 @@
+-- Each case is computed.
+use mathlib.Core.Path.{refl}
+use lib.Ieee.{round}
+use Rattle.count.specs.Count.{count}
+use Rattle.doodson.specs.Doodson.{multipliersIn, numberOf, writable, readDoodson, writeDoodson}
+use Rattle.field.specs.Field.{inRange}
+use Rattle.permanent.specs.Systems.{permanentPart, aboveTideFree, movedC20}
+use Rattle.wave.proofs.Cases.{p4}
+use Rattle.whole.specs.Nearest.{nearest}
+use Rattle.cases.specs.Cases.{Cases}
+
+pub cases : Cases
+unfolding readDoodson writeDoodson writable numberOf multipliersIn count nearest round inRange movedC20 aboveTideFree permanentPart
+cases = record {
+  p1 = refl;
+  p1-back = refl;
+  p2 = refl;
+  p3 = refl;
+  p4 = p4;
+  p5 = refl;
+  p6-zero = refl;
+  p6-mean = refl;
+}
