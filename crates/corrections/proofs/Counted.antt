@@ -42,7 +42,8 @@ module _ (P : Counts → Type 0) where
       → WhereAccepted P (corrections moon sun love)
   unfolding corrections measured
   where-accepted moon sun love h =
-      by-next (sighted moon) _ (λ m. by-next (sighted sun) _ (λ s. let f = floats moon m sun s love in by-test (allCountable (f .c) && allCountable (f .s)) (counted f) (h m s)))
+      by-next (sighted moon) _ (λ m. by-next (sighted sun) _ (λ s.
+      let f = floats moon m sun s love in by-test (allCountable (f .c) && allCountable (f .s)) (counted f) (h m s)))
 
 pub record SmallCounts (k : Counts) : Type 0 where
   pub in-c : (i : ℕ) → natAbs (getD (k .c) i (pos 0)) ≤ 2 ^ 52

@@ -19,13 +19,13 @@ use Rattle.potential.specs.Potential.{terms, shared}
 use Rattle.response.specs.Response.{changes, allCountable, counts}
 use Rattle.corrections.specs.Corrections.{Counts, floats, measured, corrections}
 
-abbrev moon : Body
+abbrev pub moon : Body
 moon = record { ratio = decimal 1230002 100000000; place = Rectangular (number 330000000) (number 165000000) (number 110000000) (number 385000000) }
 
-abbrev sun : Body
+abbrev pub sun : Body
 sun = record { ratio = number 332946; place = Directional (decimal 36 100) (minus-decimal 8 10) (decimal 48 100) (number 149600000000) }
 
-abbrev expected : LoveModel → Counts
+abbrev pub expected : LoveModel → Counts
 expected Elastic =
     record {
       c =

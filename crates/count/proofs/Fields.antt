@@ -67,9 +67,12 @@ with-lead : (t : ℕ) → t < 2 ^ 52 → 2 ^ 52 + t < 2 ^ 53
 with-lead t h = omega arith
 
 small-field : (s : Bool) (x t : ℕ) → t < 2 ^ 52 → x < 1021 → count (ofFields binary64 s x t) ≡ pos 0
-small-field s zero t T52 h = count-none (ofFields binary64 s zero t) s (t * 2 ^ 0) (lt-of-lt-of-le (shl-lt 52 0 T52) (pow-mono {i = 52 + 0} {j = 1073} (omega arith))) (zero-at s t)
+small-field s zero t T52 h =
+    let l : t * 2 ^ 0 < 2 ^ 1073 = lt-of-lt-of-le (shl-lt 52 0 T52) (pow-mono {i = 52 + 0} {j = 1073} (omega arith)) in
+    count-none (ofFields binary64 s zero t) s (t * 2 ^ 0) l (zero-at s t)
 small-field s (suc x) t T52 h =
-    count-none (ofFields binary64 s (suc x) t) s ((2 ^ 52 + t) * 2 ^ x) (lt-of-lt-of-le (shl-lt 53 x (with-lead t T52)) (pow-mono {i = 53 + x} {j = 1073} (omega arith))) (value-at s x t (omega arith))
+    let l : (2 ^ 52 + t) * 2 ^ x < 2 ^ 1073 = lt-of-lt-of-le (shl-lt 53 x (with-lead t T52)) (pow-mono {i = 53 + x} {j = 1073} (omega arith)) in
+    count-none (ofFields binary64 s (suc x) t) s ((2 ^ 52 + t) * 2 ^ x) l (value-at s x t (omega arith))
 
 large-field : (s : Bool) (x t : ℕ) → 1021 ≤ x → x < 1075 → count (ofFields binary64 s x t) ≡ rounded s (2 ^ 52 + t) (1074 - x)
 large-field s zero t lo hi = absurd (not-suc-le-zero lo)

@@ -65,11 +65,14 @@ N t32 = norms .n32
 N t33 = norms .n33
 
 -- "t = (N*L)*W; P = t*E(m), Q = t*F(m)."
+abbrev pub strength : Float → Float → Direction → Term → Float
+strength norm ratio d t = norm *· L (d .w) t *· W ratio (d .r) t
+
 abbrev pub times : Float → Float → Float → Pair
 times t e f = record { p = t *· e; q = t *· f }
 
 abbrev pub term : Float → Direction → Term → Pair
-term ratio d t = times (N t *· L (d .w) t *· W ratio (d .r) t) (E (order t) (d .u) (d .v)) (F (order t) (d .u) (d .v))
+term ratio d t = times (strength (N t) ratio d t) (E (order t) (d .u) (d .v)) (F (order t) (d .u) (d .v))
 
 unfoldable pub terms : Float → Direction → Potential
 terms ratio d =
@@ -84,17 +87,19 @@ terms ratio d =
     }
 
 -- "Add Sun to Moon; divide P and Q by 5 (degree 2) or 7 (degree 3)."
-abbrev pub share : Float → Pair → Pair → Pair
-share by moon sun = record { p = (moon .p +· sun .p) /· by; q = (moon .q +· sun .q) /· by }
+abbrev pub share : Term → Pair → Pair → Pair
+share t moon sun =
+    let by = byDegree (number 5) (number 7) t in
+    record { p = (moon .p +· sun .p) /· by; q = (moon .q +· sun .q) /· by }
 
 unfoldable pub shared : Potential → Potential → Potential
 shared moon sun =
     record {
-      nm20 = share (number 5) (moon .nm20) (sun .nm20);
-      nm21 = share (number 5) (moon .nm21) (sun .nm21);
-      nm22 = share (number 5) (moon .nm22) (sun .nm22);
-      nm30 = share (number 7) (moon .nm30) (sun .nm30);
-      nm31 = share (number 7) (moon .nm31) (sun .nm31);
-      nm32 = share (number 7) (moon .nm32) (sun .nm32);
-      nm33 = share (number 7) (moon .nm33) (sun .nm33);
+      nm20 = share t20 (moon .nm20) (sun .nm20);
+      nm21 = share t21 (moon .nm21) (sun .nm21);
+      nm22 = share t22 (moon .nm22) (sun .nm22);
+      nm30 = share t30 (moon .nm30) (sun .nm30);
+      nm31 = share t31 (moon .nm31) (sun .nm31);
+      nm32 = share t32 (moon .nm32) (sun .nm32);
+      nm33 = share t33 (moon .nm33) (sun .nm33);
     }

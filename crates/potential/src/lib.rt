@@ -1,8 +1,7 @@
 // The tide-generating potential of the Moon and the Sun (001, eqs. 1 and 2; document 01, "Step one"): P and Q of each degree and order.
 ghost use mathlib.Core.Path.{_≡_};
-ghost use Rattle.powers.specs.Powers.{powers};
-ghost use Rattle.constants.specs.Norms.{norms};
 ghost use Rattle.potential.specs.Potential.{terms, shared};
+ghost use Rattle.potential.specs.Halves.{strengths, paired};
 use bodies::Direction;
 use constants::Norms;
 use constants::norms_of;
@@ -25,10 +24,19 @@ pub struct Potential {
     pub nm33: Pair,
 }
 
-// The terms of one body, from the powers of its direction and the factors.
-fn terms_from(ratio: f64, d: Direction, e: Powers, n: Norms) -> Potential
-    requires { ⌜ e ≡ powers (d .u) (d .v) ⌝ ∗ ⌜ n ≡ norms ⌝ }
-    ensures { λ r. ⌜ r ≡ terms ratio d ⌝ }
+// t of each degree and order.
+pub struct Strengths {
+    pub t20: f64,
+    pub t21: f64,
+    pub t22: f64,
+    pub t30: f64,
+    pub t31: f64,
+    pub t32: f64,
+    pub t33: f64,
+}
+
+fn strengths_of(ratio: f64, d: Direction, n: Norms) -> Strengths
+    ensures { λ t. ⌜ t ≡ strengths ratio d n ⌝ }
 {
     let w = d.w;
     let q = 6378136.3 / d.r;
@@ -44,44 +52,58 @@ fn terms_from(ratio: f64, d: Direction, e: Powers, n: Norms) -> Potential
     let t31 = n.n31 * ((15.0 * w2 - 3.0) / 2.0) * weight3;
     let t32 = n.n32 * (15.0 * w) * weight3;
     let t33 = n.n33 * 15.0 * weight3;
+    Strengths {
+        t20,
+        t21,
+        t22,
+        t30,
+        t31,
+        t32,
+        t33,
+    }
+}
+
+fn paired_of(t: Strengths, e: Powers) -> Potential
+    ensures { λ x. ⌜ x ≡ paired t e ⌝ }
+{
     Potential {
         nm20: Pair {
-            p: t20 * e.e0,
-            q: t20 * e.f0,
+            p: t.t20 * e.e0,
+            q: t.t20 * e.f0,
         },
         nm21: Pair {
-            p: t21 * e.e1,
-            q: t21 * e.f1,
+            p: t.t21 * e.e1,
+            q: t.t21 * e.f1,
         },
         nm22: Pair {
-            p: t22 * e.e2,
-            q: t22 * e.f2,
+            p: t.t22 * e.e2,
+            q: t.t22 * e.f2,
         },
         nm30: Pair {
-            p: t30 * e.e0,
-            q: t30 * e.f0,
+            p: t.t30 * e.e0,
+            q: t.t30 * e.f0,
         },
         nm31: Pair {
-            p: t31 * e.e1,
-            q: t31 * e.f1,
+            p: t.t31 * e.e1,
+            q: t.t31 * e.f1,
         },
         nm32: Pair {
-            p: t32 * e.e2,
-            q: t32 * e.f2,
+            p: t.t32 * e.e2,
+            q: t.t32 * e.f2,
         },
         nm33: Pair {
-            p: t33 * e.e3,
-            q: t33 * e.f3,
+            p: t.t33 * e.e3,
+            q: t.t33 * e.f3,
         },
     }
 }
 
+// The terms of one body.
 pub fn terms_of(ratio: f64, d: Direction) -> Potential
     ensures { λ r. ⌜ r ≡ terms ratio d ⌝ }
 {
-    let e = powers_of(d.u, d.v);
-    let n = norms_of();
-    terms_from(ratio, d, e, n)
+    let t = strengths_of(ratio, d, norms_of());
+    paired_of(t, powers_of(d.u, d.v))
 }
 
 // Both bodies' terms, added and divided by 2n + 1.

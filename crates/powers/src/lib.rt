@@ -14,23 +14,23 @@ pub struct Powers {
     pub f3: f64,
 }
 
-fn even_part(m: u8, u: f64, v: f64) -> f64
+fn real_part(m: u8, u: f64, v: f64) -> f64
     ensures { λ r. ⌜ r ≡ E m u v ⌝ }
 {
     if m == 0 {
         1.0
     } else {
-        u * even_part(m - 1, u, v) - v * odd_part(m - 1, u, v)
+        u * real_part(m - 1, u, v) - v * imaginary_part(m - 1, u, v)
     }
 }
 
-fn odd_part(m: u8, u: f64, v: f64) -> f64
+fn imaginary_part(m: u8, u: f64, v: f64) -> f64
     ensures { λ r. ⌜ r ≡ F m u v ⌝ }
 {
     if m == 0 {
         0.0
     } else {
-        u * odd_part(m - 1, u, v) + v * even_part(m - 1, u, v)
+        u * imaginary_part(m - 1, u, v) + v * real_part(m - 1, u, v)
     }
 }
 
@@ -38,13 +38,13 @@ pub fn powers_of(u: f64, v: f64) -> Powers
     ensures { λ r. ⌜ r ≡ powers u v ⌝ }
 {
     Powers {
-        e0: even_part(0, u, v),
-        f0: odd_part(0, u, v),
-        e1: even_part(1, u, v),
-        f1: odd_part(1, u, v),
-        e2: even_part(2, u, v),
-        f2: odd_part(2, u, v),
-        e3: even_part(3, u, v),
-        f3: odd_part(3, u, v),
+        e0: real_part(0, u, v),
+        f0: imaginary_part(0, u, v),
+        e1: real_part(1, u, v),
+        f1: imaginary_part(1, u, v),
+        e2: real_part(2, u, v),
+        f2: imaginary_part(2, u, v),
+        e3: real_part(3, u, v),
+        f3: imaginary_part(3, u, v),
     }
 }

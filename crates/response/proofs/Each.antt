@@ -39,10 +39,12 @@ each (x ∷ xs) t (suc j) l = each xs (and-r (countable x) (allCountable xs) t) 
 
 pub counted : (xs : List Float) (out : List ℤ) → length out ≡ length xs → ((j : ℕ) → j < length xs → getD out j (pos 0) ≡ count (getD xs j nan)) → out ≡ counts xs
 unfolding counts count
-counted xs out e h = ext-getD (pos 0) out (map count xs) (e ∙ sym (length-map xs count)) (λ j l. h j (subst (λ (n : ℕ). j < n) e l) ∙ sym (List·getD-map count xs j nan))
+counted xs out e h =
+    ext-getD (pos 0) out (map count xs) (e ∙ sym (length-map xs count))
+    (λ j l. h j (subst (λ (n : ℕ). j < n) e l) ∙ sym (List·getD-map count xs j nan))
 
-pub stored : (xs : List Float) (out : List ℤ) (k : ℕ) (z : ℤ) → k < length out → z ≡ count (getD xs k nan) → ((j : ℕ) → j < k → getD out j (pos 0) ≡ count (getD xs j nan))
-    → (j : ℕ) → j < k + 1 → getD (set out k z) j (pos 0) ≡ count (getD xs j nan)
+pub stored : (xs : List Float) (out : List ℤ) (k : ℕ) (z : ℤ) → k < length out → z ≡ count (getD xs k nan)
+    → ((j : ℕ) → j < k → getD out j (pos 0) ≡ count (getD xs j nan)) → (j : ℕ) → j < k + 1 → getD (set out k z) j (pos 0) ≡ count (getD xs j nan)
 stored xs out k z l e h = below-more (λ (j : ℕ). getD (set out k z) j (pos 0) ≡ count (getD xs j nan)) k
     (λ j m. getD-set-other out k j z (pos 0) (ne-of-lt m) ∙ h j m)
     (getD-set-same out k z (pos 0) l ∙ e)

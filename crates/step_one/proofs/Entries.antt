@@ -74,8 +74,8 @@ order-zero s by z (suc (suc (suc (suc zero)))) = by-zero s (by .s) 10 7 (omega a
 order-zero s by z (suc (suc (suc (suc (suc d))))) = outside s (by .s) (place (suc (suc (suc (suc (suc d))))) 0) (inr (omega (arith, far d)))
 
 -- ---- the outcome of a call
-by-answer : (P : Outcome → Type 0) (number : ℕ) (c s c′ s′ : List ℤ) → ((o : ℕ) → P (record { number = o; c = c; s = s })) → ((o : ℕ) → P (record { number = o; c = c′; s = s′ }))
-    → P (unlessRefused number c s c′ s′)
+by-answer : (P : Outcome → Type 0) (number : ℕ) (c s c′ s′ : List ℤ)
+    → ((o : ℕ) → P (record { number = o; c = c; s = s })) → ((o : ℕ) → P (record { number = o; c = c′; s = s′ })) → P (unlessRefused number c s c′ s′)
 unfolding unlessRefused
 by-answer P number c s c′ s′ kept new = go (eqb number 0)
   where

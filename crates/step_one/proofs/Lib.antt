@@ -1,3 +1,4 @@
 pub mod Run
 pub mod Outcomes
 pub mod Entries
+pub mod Example

@@ -39,20 +39,23 @@ is-in-reach-requires c κs = search needs
 
 returns-2 : tie.Need-returns-2
 returns-2 c =
-    sees _ _ true false _ (c .before .before .direction-of .ensures) (finite (c .before .before)) (sym (not-true _ (c .if2 .taken)) ∙ c .before .is-in-reach .ensures) refl
+    let a = c .before .before in
+    sees _ _ true false _ (a .direction-of .ensures) (finite a) (sym (not-true _ (c .if2 .taken)) ∙ c .before .is-in-reach .ensures) refl
 
 is-of-length-one-requires : tie.Need-is-of-length-one-requires
 is-of-length-one-requires c κs = search needs
 
 returns-3 : tie.Need-returns-3
 returns-3 c =
-    let a = c .before .before in
-    sees _ _ true true true (a .before .before .direction-of .ensures) (finite (a .before .before)) (near a) (sym (c .if3 .taken) ∙ c .before .is-of-length-one .ensures)
+    let n = c .before .before in
+    let a = n .before .before in
+    sees _ _ true true true (a .direction-of .ensures) (finite a) (near n) (sym (c .if3 .taken) ∙ c .before .is-of-length-one .ensures)
 
 returns-4 : tie.Need-returns-4
 returns-4 c =
-    let a = c .before .before in
-    sees _ _ true true false (a .before .before .direction-of .ensures) (finite (a .before .before)) (near a) (sym (c .if3 .left) ∙ c .before .is-of-length-one .ensures)
+    let n = c .before .before in
+    let a = n .before .before in
+    sees _ _ true true false (a .direction-of .ensures) (finite a) (near n) (sym (c .if3 .left) ∙ c .before .is-of-length-one .ensures)
 
 pub see-spec : {M : Type 1} → statement M
 see-spec =

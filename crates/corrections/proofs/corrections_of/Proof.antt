@@ -42,14 +42,17 @@ returns-2 : tie.Need-returns-2
 unfolding corrections
 returns-2 c =
     let m = c .before .before .before .before in
-    rw (← m .before .before .before .before .see .ensures, m .before .before .moon-seen2 .given .1, ← m .see2 .ensures, c .before .before .sun-seen .given .1) (c .refuse2 .ensures)
+    let s = m .before .before in
+    rw (← s .before .before .see .ensures, s .moon-seen2 .given .1, ← m .see2 .ensures, c .before .before .sun-seen .given .1)
+    (c .refuse2 .ensures)
 
 returns-3 : tie.Need-returns-3
 unfolding corrections
 returns-3 c =
     let a = c .before in
     let m = a .before .before .before .before in
-    rw (← m .before .before .before .before .see .ensures, m .before .before .moon-seen2 .given .1, ← m .see2 .ensures, a .before .before .sun-seen2 .given .1, ← a .floats-of .ensures)
+    let s = m .before .before in
+    rw (← s .before .before .see .ensures, s .moon-seen2 .given .1, ← m .see2 .ensures, a .before .before .sun-seen2 .given .1, ← a .floats-of .ensures)
     (c .measure .ensures)
 
 pub corrections-of-spec : {M : Type 1} → statement M

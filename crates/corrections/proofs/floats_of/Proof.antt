@@ -24,7 +24,10 @@ changes-of-requires c κs = search needs
 
 returns : tie.Need-returns
 unfolding floats
-returns c = rw (c .changes-of .ensures, c .before .before .loves-of .ensures, c .before .loves-3 .ensures, c .before .before .before .shared-of .ensures, c .before .before .before .before .terms-of2 .ensures, c .before .before .before .before .before .terms-of .ensures)
+returns c =
+    let x = c .before .before .before in
+    rw (c .changes-of .ensures, c .before .before .loves-of .ensures, c .before .loves-3 .ensures)
+    (rw (x .shared-of .ensures, x .before .terms-of2 .ensures, x .before .before .terms-of .ensures))
 
 pub floats-of-spec : {M : Type 1} → statement M
 floats-of-spec =

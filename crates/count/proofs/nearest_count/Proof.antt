@@ -20,7 +20,9 @@ nearest-of-bits-requires : tie.Need-nearest-of-bits-requires
 nearest-of-bits-requires c κs = field-of (c .args .x) (held c) (c .pre)
 
 returns : tie.Need-returns
-returns c = back w64 (c .nearest-of-bits .result) (c .nearest-of-bits .ok) ∙ c .nearest-of-bits .ensures ∙ ap count (ofBits-toBits binary64 (c .before .args .x) (held (c .before)))
+returns c =
+    let bits = ofBits-toBits binary64 (c .before .args .x) (held (c .before)) in
+    back w64 (c .nearest-of-bits .result) (c .nearest-of-bits .ok) ∙ c .nearest-of-bits .ensures ∙ ap count bits
 
 pub nearest-count-spec : {M : Type 1} → statement M
 nearest-count-spec =

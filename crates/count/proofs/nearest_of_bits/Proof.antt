@@ -42,14 +42,16 @@ returns-2 : tie.Need-returns-2
 unfolding rounded signed
 returns-2 c =
     let a = c .before .before in
-    back w64 (c .halved .result) (c .halved .ok) ∙ c .halved .ensures .0 ∙ sym (above-is (a .before .args .b) (a .if1 .left) (a .before .pre) (c .before .if2 .taken))
+    let is = above-is (a .before .args .b) (a .if1 .left) (a .before .pre) (c .before .if2 .taken) in
+    back w64 (c .halved .result) (c .halved .ok) ∙ c .halved .ensures .0 ∙ sym is
 
 returns-3 : tie.Need-returns-3
 unfolding rounded signed
 returns-3 c =
     let a = c .before .before in
+    let is = below-is (a .before .args .b) (a .if1 .left) (a .before .pre) (c .before .if2 .left) in
     rw (back w64 (c .halved2 .result) (c .halved2 .ok), toZ-ofZ (negated c))
-    (+ℤ-idl (negℤ (c .halved2 .result)) ∙ ap negℤ (c .halved2 .ensures .0) ∙ sym (below-is (a .before .args .b) (a .if1 .left) (a .before .pre) (c .before .if2 .left)))
+    (+ℤ-idl (negℤ (c .halved2 .result)) ∙ ap negℤ (c .halved2 .ensures .0) ∙ sym is)
 
 pub nearest-of-bits-spec : {M : Type 1} → statement M
 nearest-of-bits-spec =

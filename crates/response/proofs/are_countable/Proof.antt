@@ -2,13 +2,12 @@
 use borrow.Author.Needs.{needs}
 use borrow.Author.Count.{below-more}
 use borrow.Author.Tests.{not-true, not-false}
-use mathlib.Core.Path.{_≡_}
+use mathlib.Core.Path.{_≡_, sym, _∙_}
 use mathlib.Core.Bool.{true}
 use Prim.Native.Nat.{ℕ, _≤_, _<_, _-_}
 use native.Mathlib.Omega.{arith}
 use lib.ListN.{getD, length}
 use lib.Ieee.{nan}
-use mathlib.Core.Path.{sym, _∙_}
 use Rattle.count.specs.Count.{countable}
 use Rattle.response.proofs.Each.{all-true, one-false}
 use Rattle.response.proofs.are_countable.Statement.{statement}
@@ -34,8 +33,9 @@ is-countable-requires c κs = search needs
 
 returns : tie.Need-returns Inv-loop μ-loop
 returns c =
-    let ten : length (c .before .before .before .before .args .t1) ≡ 10 = search needs in
-    one-false (c .before .before .before .before .args .t1) (c .before .before .before .loop .k) (omega arith) (sym (c .before .is-countable .ensures) ∙ not-true _ (c .if1 .taken))
+    let a = c .before .before .before in
+    let ten : length (a .before .args .t1) ≡ 10 = search needs in
+    one-false (a .before .args .t1) (a .loop .k) (omega arith) (sym (c .before .is-countable .ensures) ∙ not-true _ (c .if1 .taken))
 
 add-k : tie.Need-add-k Inv-loop μ-loop
 add-k c = omega arith
@@ -44,7 +44,10 @@ loop-less : tie.Need-loop-less Inv-loop μ-loop
 loop-less c = omega arith
 
 loop-again : tie.Need-loop-again Inv-loop μ-loop
-loop-again c = (omega arith, below-more (λ (j : ℕ). countable (getD (c .before .before .before .before .args .t1) j nan) ≡ true) _ (c .before .before .before .loop .inv .1) (sym (c .before .is-countable .ensures) ∙ not-false _ (c .if1 .left)))
+loop-again c =
+    let a = c .before .before .before in
+    let one = sym (c .before .is-countable .ensures) ∙ not-false _ (c .if1 .left) in
+    (omega arith, below-more (λ (j : ℕ). countable (getD (a .before .args .t1) j nan) ≡ true) _ (a .loop .inv .1) one)
 
 returns-2 : tie.Need-returns-2 Inv-loop μ-loop
 returns-2 c =

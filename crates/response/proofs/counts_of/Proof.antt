@@ -1,15 +1,13 @@
 -- Each turn stores the count of one more element.
 use borrow.Author.Needs.{needs}
-use mathlib.Core.Path.{_≡_, refl}
+use mathlib.Core.Path.{_≡_, refl, sym, _∙_}
 use Prim.Native.Nat.{ℕ, _≤_, _<_, _-_}
 use native.Mathlib.Omega.{arith}
-use lib.ListN.{getD, length}
+use lib.ListN.{getD, length, length-set}
 use lib.Ieee.{nan}
 use lib.IntN.{pos}
-use mathlib.Core.Path.{sym, _∙_}
-use lib.ListN.{length-set}
 use mir.Syntax.{w64}
-use mir.ValLaws.{toZ-ofZ}
+use Rattle.whole.proofs.Machine.{back}
 use Rattle.count.specs.Count.{count}
 use Rattle.response.proofs.Each.{each, counted, stored}
 use Rattle.response.proofs.counts_of.Statement.{statement}
@@ -48,11 +46,13 @@ loop-less : tie.Need-loop-less Inv-loop μ-loop
 loop-less c = omega arith
 
 loop-again : tie.Need-loop-again Inv-loop μ-loop
-loop-again c = (
-  omega arith,
-  simp length-set (c .before .before .loop .inv .1),
-  stored (c .before .before .before .args .t1) (c .before .before .loop .out) (c .before .before .loop .k) _ (omega arith) (toZ-ofZ w64 (c .nearest-count .result) (record { sfits = c .nearest-count .ok }) ∙ c .nearest-count .ensures) (c .before .before .loop .inv .2),
-)
+loop-again c =
+    let a = c .before .before in
+    let one = back w64 (c .nearest-count .result) (c .nearest-count .ok) ∙ c .nearest-count .ensures in (
+      omega arith,
+      simp length-set (a .loop .inv .1),
+      stored (a .before .args .t1) (a .loop .out) (a .loop .k) _ (omega arith) one (a .loop .inv .2),
+    )
 
 returns : tie.Need-returns Inv-loop μ-loop
 returns c =

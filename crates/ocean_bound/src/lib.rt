@@ -1,0 +1,1 @@
+// How far the ocean tide's corrections are from the exact sums: definitions and laws, no code.
