@@ -1,8 +1,8 @@
 -- What an accepted field has, and an outcome by its number.
-use mathlib.Core.Path.{_≡_, refl, sym}
+use mathlib.Core.Path.{_≡_, refl, sym, _∙_}
 use mathlib.Core.Bool.{Bool, true, false, cond}
 use mathlib.Core.List.{List}
-use Prim.Native.Nat.{ℕ, _≤_, _<_}
+use Prim.Native.Nat.{ℕ, zero, suc, _≤_, _<_}
 use native.Mathlib.Nat.{mul-le-mul}
 use native.Mathlib.Omega.{arith}
 use borrow.Author.Tests.{eqb-true, ne-eqb}
@@ -10,7 +10,7 @@ use lib.Dec.{eqb}
 use lib.IntN.{ℤ}
 use lib.ListN.{length}
 use Rattle.field.specs.Field.{size, place, everyInRange, fieldRefusal}
-use Rattle.field.specs.Outcome.{unlessRefused, Outcome, Gives}
+use Rattle.field.specs.Outcome.{firstOf, unlessRefused, Outcome, Gives}
 use Rattle.field.proofs.Table.{field-table, all-in}
 
 -- a field that is not refused
@@ -65,3 +65,16 @@ module _ (number : ℕ) (c s c′ s′ : List ℤ) where
 
   pub refused-untouched : (number ≡ 0 → ⊥) → (unlessRefused number c s c′ s′ .c ≡ c) × (unlessRefused number c s c′ s′ .s ≡ s)
   refused-untouched n = let g = gives-kept n in (sym (g .list-c), sym (g .list-s))
+
+-- ---- the first of two refusals
+pub first-kept : (a b : ℕ) → (a ≡ 0 → ⊥) → firstOf a b ≡ a
+unfolding firstOf
+first-kept a b h = rw (ne-eqb a 0 h)
+
+pub first-passed : (a b : ℕ) → a ≡ 0 → firstOf a b ≡ b
+unfolding firstOf
+first-passed a b e = rw e
+
+pub first-none : (a b : ℕ) → firstOf a b ≡ 0 → (a ≡ 0) × (b ≡ 0)
+first-none zero b e = (refl, sym (first-passed 0 b refl) ∙ e)
+first-none (suc a) b e = absurd (let z : suc a ≡ 0 = sym (first-kept (suc a) b (λ q. omega arith)) ∙ e in omega arith)

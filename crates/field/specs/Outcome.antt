@@ -17,6 +17,10 @@ pub record Outcome : Type 0 where
   pub c : List ℤ
   pub s : List ℤ
 
+-- "The lowest number that applies to a call is answered": of two refusals in their order, each 0 where it does not apply
+unfoldable pub firstOf : ℕ → ℕ → ℕ
+firstOf first second = cond (eqb first 0) second first
+
 -- where nothing refuses the call, the new lists; where a number does, that number and the lists as they were
 unfoldable pub unlessRefused : ℕ → List ℤ → List ℤ → List ℤ → List ℤ → Outcome
 unlessRefused number c s c′ s′ =

@@ -1,2 +1,3 @@
 pub mod Passing
+pub mod Entries
 pub mod Cases

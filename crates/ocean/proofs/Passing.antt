@@ -5,10 +5,10 @@ use Prim.Native.Nat.{ℕ, _<_}
 use lib.IntN.{ℤ}
 use lib.ListN.{length}
 use Rattle.field.specs.Field.{size, fieldRefusal}
-use Rattle.field.proofs.Outcomes.{accepted-field, place-below}
+use Rattle.field.proofs.Outcomes.{accepted-field, place-below, first-none}
 use Rattle.sheet.specs.Accepted.{ownRefusal, sheetRefusal}
 use Rattle.sheet.specs.Sheet.{placeCount, degree, order}
-use Rattle.sheet.proofs.Acceptance.{accepted, accepted-for, first-none, index}
+use Rattle.sheet.proofs.Acceptance.{accepted, accepted-for, index}
 use Rattle.places.specs.Held.{Wide}
 use Rattle.ocean.specs.Ocean.{oceanRefusal}
 

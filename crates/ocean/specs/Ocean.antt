@@ -5,9 +5,9 @@ use lib.IntN.{ℤ}
 use Rattle.arguments.specs.declared.Phases.{Phases}
 use Rattle.choices.specs.declared.Frame.{Frame}
 use Rattle.field.specs.Field.{fieldRefusal}
-use Rattle.field.specs.Outcome.{unlessRefused, Outcome}
+use Rattle.field.specs.Outcome.{firstOf, unlessRefused, Outcome}
 use Rattle.places.specs.Places.{correction, added}
-use Rattle.sheet.specs.Accepted.{first, sheetRefusal}
+use Rattle.sheet.specs.Accepted.{sheetRefusal}
 use Rattle.sheet.specs.Sheet.{placeCount, cCos, sCos, cSin, sSin}
 use Rattle.tides.specs.Tides.{fcos, fsin}
 
@@ -20,7 +20,7 @@ dS s b frame = correction s frame (fcos s b) (fsin s b) sCos sSin
 
 -- refusals 1, 2, 7, 8, 9
 unfoldable pub oceanRefusal : ℕ → List ℤ → List ℤ → List ℕ → ℕ
-oceanRefusal n c s sheet = first (fieldRefusal n c s) (sheetRefusal sheet n)
+oceanRefusal n c s sheet = firstOf (fieldRefusal n c s) (sheetRefusal sheet n)
 
 -- the call over a field: the answer, and every entry of both lists
 unfoldable pub oceanTide : ℕ → List ℤ → List ℤ → List ℕ → Phases → Frame → Outcome

@@ -1,26 +1,30 @@
 -- Each correction lies within its place's own bound of the exact sum, and that bound is at most nine counts for every accepted sheet.
 use mathlib.Core.Bool.{Bool, true, false, cond}
-use mathlib.Core.List.{List}
-use mathlib.Core.Path.{_≡_, refl, sym, subst}
+use mathlib.Core.List.{List, [], _∷_}
+use mathlib.Core.Path.{_≡_, refl, sym, ap, subst, _∙_}
 use Prim.Native.Nat.{ℕ, zero, suc, _+_, _*_, _^_, _≤_, _<_, zero-le}
 use native.Mathlib.Nat.{mul-le-mul, mul-le-mul-right}
 use native.Mathlib.Omega.{arith}
 use lib.IntN.{ℤ, pos, natAbs, _+ℤ_, _-ℤ_, _*ℤ_, *ℤ-comm, zero-*ℤ}
+use lib.ListN.{getD}
 use Rattle.arguments.specs.declared.Phases.{Phases}
 use Rattle.choices.specs.declared.Frame.{Frame}
-use Rattle.ocean.specs.Ocean.{dC, dS}
+use Rattle.ocean.specs.Ocean.{dC, dS, oceanRefusal, oceanTide}
+use Rattle.ocean.proofs.Entries.{c-here, s-here}
+use Rattle.ocean.proofs.Passing.{passing}
 use Rattle.places.specs.Places.{placeSum, skipped, unlessSkipped, correction}
 use Rattle.series.specs.Exact.{scale}
 use Rattle.series.proofs.Sums.{sines-near, cosines-near, pairs-near}
-use Rattle.series.proofs.Within.{Within, within-nearest}
+use Rattle.whole.proofs.Within.{Within, within-nearest}
 use Rattle.sheet.specs.Accepted.{ownRefusal}
 use Rattle.sheet.specs.Sheet.{lineCount, tideCount, placeCount, admittance, degree, cCos, sCos, cSin, sSin, coefficient}
-use Rattle.sheet.proofs.Acceptance.{Accepted, accepted}
+use Rattle.sheet.proofs.Acceptance.{Accepted, accepted, index}
 use Rattle.tides.specs.Tides.{linePhase, lineSum, factor, fcos, fsin}
 use Rattle.tides.proofs.Factors.{sum-same}
-use Rattle.tides.proofs.Running.{weight-small}
+use Rattle.whole.proofs.Running.{weight-size}
 use Rattle.whole.specs.Nearest.{nearest}
 use Rattle.whole.specs.Sum.{sumTo, weightTo}
+use Rattle.whole.proofs.Ring.{equal, !, _⊕_, _⊖_}
 use Rattle.ocean_bound.specs.Exact.{exactFcos, exactFsin, unit, exactSum, rowWeight, errorBound}
 
 -- ---- a tide's factors: half a unit of their own, and two for each admittance in ones
@@ -100,7 +104,7 @@ module _ {s : List ℕ} (A : Accepted s) (p q j : ℕ) (gp : p < 4) (gq : q < 4)
   at-most-nine =
       let tides : weightTo (λ k. pos ((natAbs (coefficient s j k p) + natAbs (coefficient s j k q)) * ((2 * rowWeight s k + 500000) * scale))) (tideCount s)
       ≤ tideCount s * (2 ^ 25 * (8500000 * scale)) =
-      weight-small _ (2 ^ 25 * (8500000 * scale)) (tideCount s) tide-error in
+      weight-size _ (2 ^ 25 * (8500000 * scale)) (tideCount s) tide-error in
       omega (arith, mul-le-mul-right (2 ^ 25 * (8500000 * scale)) (A .shape .tides-most))
 
 -- ---- the two promises: "each correction is at most nine counts from the exact sum (zero at a skipped place)"
@@ -115,3 +119,20 @@ module _ (s : List ℕ) (passed : ownRefusal s ≡ 0) (b : Phases) (frame : Fram
   pub dS-within-nine : natAbs (dS s b frame j *ℤ pos unit -ℤ exactSum s b frame sCos sSin j) ≤ 9 * unit
   unfolding dS
   dS-within-nine = nine sCos sSin (omega arith) (omega arith)
+
+-- ---- the same of every call that nothing refuses: what the entry of place j gained
+module _ (n : ℕ) (c s : List ℤ) (sheet : List ℕ) (b : Phases) (frame : Frame) (e : oceanRefusal n c s sheet ≡ 0) (j : ℕ) (h : j < placeCount sheet) where
+  gained : (x d : ℤ) → x +ℤ d -ℤ x ≡ d
+  gained x d = equal (! 0 ⊕ ! 1 ⊖ ! 0) (! 1) (x ∷ d ∷ []) (omega arith)
+
+  pub C-within-nine : natAbs ((getD (oceanTide n c s sheet b frame .c) (index sheet j) (pos 0) -ℤ getD c (index sheet j) (pos 0)) *ℤ pos unit -ℤ exactSum sheet b frame cCos cSin j) ≤ 9 * unit
+  C-within-nine =
+      subst (λ (z : ℤ). natAbs (z *ℤ pos unit -ℤ exactSum sheet b frame cCos cSin j) ≤ 9 * unit)
+      (sym (ap (λ (z : ℤ). z -ℤ getD c (index sheet j) (pos 0)) (c-here n c s sheet b frame e j h) ∙ gained (getD c (index sheet j) (pos 0)) (dC sheet b frame j)))
+      (dC-within-nine sheet (passing n c s sheet e .0) b frame j h)
+
+  pub S-within-nine : natAbs ((getD (oceanTide n c s sheet b frame .s) (index sheet j) (pos 0) -ℤ getD s (index sheet j) (pos 0)) *ℤ pos unit -ℤ exactSum sheet b frame sCos sSin j) ≤ 9 * unit
+  S-within-nine =
+      subst (λ (z : ℤ). natAbs (z *ℤ pos unit -ℤ exactSum sheet b frame sCos sSin j) ≤ 9 * unit)
+      (sym (ap (λ (z : ℤ). z -ℤ getD s (index sheet j) (pos 0)) (s-here n c s sheet b frame e j h) ∙ gained (getD s (index sheet j) (pos 0)) (dS sheet b frame j)))
+      (dS-within-nine sheet (passing n c s sheet e .0) b frame j h)

@@ -1,3 +1,4 @@
 pub mod Sizes
 pub mod Added
 pub mod Same
+pub mod Zonal

@@ -14,7 +14,7 @@ use Rattle.whole.proofs.Rounding.{nearest-size}
 use Rattle.whole.proofs.Sums.{sum-plus}
 use Rattle.sheet.specs.Sheet.{tideCount, placeCount, degree, coefficient}
 use Rattle.sheet.proofs.Acceptance.{Accepted}
-use Rattle.tides.proofs.Running.{sum-small, weight-small}
+use Rattle.whole.proofs.Running.{sum-size, weight-size}
 use Rattle.places.specs.Places.{placeSum, skipped, unlessSkipped, correction}
 use Rattle.places.specs.Held.{columnSum}
 
@@ -28,8 +28,8 @@ module _ {s : List ℕ} (A : Accepted s) (F : ℕ → ℤ) (small : (k : ℕ) �
       let tides : n ≤ 32 = omega (arith, A .shape .tides-most) in
       omega (
         arith,
-        sum-small F (λ k. coefficient s j k q) (2 ^ 24) n (λ k m. counts-small k (omega arith)),
-        mul-le-mul-right (2 ^ 24) (weight-small F (2 ^ 32) n (λ k m. small k (omega arith))),
+        sum-size F (λ k. coefficient s j k q) (2 ^ 24) n (λ k m. counts-small k (omega arith)),
+        mul-le-mul-right (2 ^ 24) (weight-size F (2 ^ 32) n (λ k m. small k (omega arith))),
       )
 
   pub column-room : (k : ℕ) → k < tideCount s

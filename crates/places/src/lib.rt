@@ -7,8 +7,8 @@ ghost use Rattle.sheet.specs.Read.{Passed};
 ghost use Rattle.sheet.specs.Sheet.{tideCount, placeCount, degree, order};
 ghost use Rattle.tides.specs.Tides.{held, Sized};
 ghost use Rattle.whole.specs.Nearest.{nearest};
-ghost use Rattle.places.specs.Places.{skipped, correction, added};
-ghost use Rattle.places.specs.Held.{columnSum, Ready, Wide};
+ghost use Rattle.places.specs.Places.{skipped, correction};
+ghost use Rattle.places.specs.Held.{columnSum, Ready, Wide, placesAdded};
 use choices::Frame;
 use sheet::Layout;
 
@@ -87,7 +87,7 @@ pub fn add_places(
     sines: &[i64; 32],
 )
     requires { ⌜ Ready (now sheet) l (now cosines) (now sines) × ((p < 4) × ((q < 4) × Wide (now sheet) (now list))) ⌝ }
-    ensures { λ _. ⌜ now (list .exit) ≡ added (now (sheet .entry)) (correction (now (sheet .entry)) frame (held (now (cosines .entry))) (held (now (sines .entry))) p q) (now (list .entry)) (placeCount (now (sheet .entry))) ⌝ }
+    ensures { λ _. ⌜ now (list .exit) ≡ placesAdded (now (sheet .entry)) frame (now (cosines .entry)) (now (sines .entry)) p q (now (list .entry)) ⌝ }
 {
     let places = l.places;
     let mut j: usize = 0;

@@ -32,12 +32,13 @@ fn is_line(sheet: &[u8], f: usize) -> bool
     requires { ⌜ f < 2 ^ 16 ⌝ }
     ensures { λ r. ⌜ r ≡ lineValid (now (sheet .entry)) f ⌝ }
 {
-    is_multiplier(sheet::multiplier_at(sheet, f, 0))
-        & is_multiplier(sheet::multiplier_at(sheet, f, 1))
-        & is_multiplier(sheet::multiplier_at(sheet, f, 2))
-        & is_multiplier(sheet::multiplier_at(sheet, f, 3))
-        & is_multiplier(sheet::multiplier_at(sheet, f, 4))
-        & is_multiplier(sheet::multiplier_at(sheet, f, 5))
+    let mut good = true;
+    let mut i: usize = 0;
+    while i < 6 {
+        good = good & is_multiplier(sheet::multiplier_at(sheet, f, i));
+        i += 1;
+    }
+    good
 }
 
 pub fn are_lines(sheet: &[u8], lines: usize) -> bool

@@ -11,7 +11,7 @@ use Rattle.wave.specs.Wave.{further, angle, square, steps, sine-divisors, eight
 use Rattle.wave.proofs.Turn.{everywhere}
 use Rattle.wave.proofs.Size.{angle-size, steps-size}
 use Rattle.series.specs.Exact.{top, bottom, factorial, denominator, coefficient, term, sine-series, cosine-series, scale, exact-sin, exact-cos}
-use Rattle.series.proofs.Within.{Within, within-negated}
+use Rattle.whole.proofs.Within.{Within, within-negated}
 use Rattle.series.proofs.Near.{Near, rounded, product-near}
 use Rattle.series.proofs.Steps.{Close, size, powers, Leads, done, next, along}
 

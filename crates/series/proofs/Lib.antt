@@ -1,4 +1,3 @@
-pub mod Within
 pub mod Near
 pub mod Steps
 pub mod Bound

@@ -7,7 +7,7 @@ use lib.IntN.{ℤ, pos, natAbs, _+ℤ_, _*ℤ_}
 use Rattle.whole.specs.Sum.{sumTo, weightTo}
 use Rattle.wave.specs.Wave.{sin, cos}
 use Rattle.series.specs.Exact.{scale, exact-sin, exact-cos}
-use Rattle.series.proofs.Within.{Within, within-plus, within-times, within-sum}
+use Rattle.whole.proofs.Within.{Within, within-plus, within-times, within-sum}
 use Rattle.series.proofs.Bound.{sin-near, cos-near}
 
 weight-times : (a : ℕ → ℤ) (e n : ℕ) → weightTo (λ i. pos (natAbs (a i) * e)) n ≡ weightTo a n * e

@@ -13,10 +13,11 @@ use Rattle.whole.specs.Sum.{weightTo, allTo}
 use Rattle.field.specs.Field.{place}
 use Rattle.whole.proofs.Tests.{and-left, and-right}
 use Rattle.sheet.specs.Sheet.{lineCount, tideCount, placeCount, endAt, multiplier, admittance, degree, order, sCos, sSin, coefficient}
-use Rattle.sheet.specs.Accepted.{shaped, lineValid, rowValid, countsValid, placeValid, precedes, ascending, valid, reached, first, ownRefusal, sheetRefusal}
+use Rattle.sheet.specs.Accepted.{shaped, lineValid, rowValid, countsValid, placeValid, precedes, ascending, valid, reached, ownRefusal, sheetRefusal}
 use Rattle.sheet.specs.declared.Layout.{Layout}
 use Rattle.sheet.specs.Read.{Whole, Passed}
-use Rattle.sheet.proofs.Counted.{all-at}
+use Rattle.field.proofs.Outcomes.{first-none}
+use Rattle.whole.proofs.Counted.{all-at}
 
 four : (a b c d : Bool) → (a && b && c && d) ≡ true → (a ≡ true) × (b ≡ true) × (c ≡ true) × (d ≡ true)
 four a b c d e =
@@ -28,19 +29,6 @@ four a b c d e =
 kept : (a : Bool) (x n : ℕ) → cond a x (suc n) ≡ 0 → (a ≡ true) × (x ≡ 0)
 kept true x n e = (refl, e)
 kept false x n e = absurd (omega arith)
-
--- ---- the first of two refusals
-pub first-kept : (a b : ℕ) → (a ≡ 0 → ⊥) → first a b ≡ a
-unfolding first
-first-kept a b h = rw (ne-eqb a 0 h)
-
-pub first-passed : (a b : ℕ) → a ≡ 0 → first a b ≡ b
-unfolding first
-first-passed a b e = rw e
-
-pub first-none : (a b : ℕ) → first a b ≡ 0 → (a ≡ 0) × (b ≡ 0)
-first-none zero b e = (refl, sym (first-passed 0 b refl) ∙ e)
-first-none (suc a) b e = absurd (let z : suc a ≡ 0 = sym (first-kept (suc a) b (λ q. omega arith)) ∙ e in omega arith)
 
 -- ---- 7
 pub record Shape (s : List ℕ) : Type 0 where

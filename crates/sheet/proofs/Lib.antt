@@ -1,4 +1,3 @@
-pub mod Counted
 pub mod Signs
 pub mod Offsets
 pub mod Acceptance

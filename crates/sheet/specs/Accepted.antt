@@ -5,6 +5,7 @@ use Prim.Native.Nat.{ℕ, _+_, _-_, _^_}
 use lib.Dec.{leb, ltb, eqb}
 use lib.IntN.{natAbs}
 use lib.ListN.{length}
+use Rattle.field.specs.Outcome.{firstOf}
 use Rattle.whole.specs.Sum.{weightTo, allTo}
 use Rattle.sheet.specs.Sheet.{lineCount, tideCount, placeCount, endAt, multiplier, admittance, degree, order, sCos, sSin, coefficient}
 
@@ -51,14 +52,10 @@ unfoldable pub reached : List ℕ → ℕ → Bool
 reached s n = allTo (λ j. leb (degree s j) n) (placeCount s)
 
 -- ---- "The lowest number that applies to a call is answered", 0 where none does
--- the first of two refusals, each 0 where it does not apply
-unfoldable pub first : ℕ → ℕ → ℕ
-first a b = cond (eqb a 0) b a
-
 -- what refuses a sheet by itself
 unfoldable pub ownRefusal : List ℕ → ℕ
 ownRefusal s = cond (shaped s) (cond (valid s) 0 8) 7
 
 -- what refuses it for a field of degree n
 unfoldable pub sheetRefusal : List ℕ → ℕ → ℕ
-sheetRefusal s n = first (ownRefusal s) (cond (reached s n) 0 9)
+sheetRefusal s n = firstOf (ownRefusal s) (cond (reached s n) 0 9)

@@ -10,10 +10,10 @@ use lib.ListN.{getD}
 abbrev pub byteAt : List ℕ → ℕ → ℕ
 byteAt s at = getD s at 0
 
-unfoldable pub halfAt : List ℕ → ℕ → ℕ
+abbrev pub halfAt : List ℕ → ℕ → ℕ
 halfAt s at = byteAt s at + 256 * byteAt s (at + 1)
 
-unfoldable pub wordAt : List ℕ → ℕ → ℕ
+abbrev pub wordAt : List ℕ → ℕ → ℕ
 wordAt s at = byteAt s at + 256 * byteAt s (at + 1) + 65536 * byteAt s (at + 2) + 16777216 * byteAt s (at + 3)
 
 -- a signed number, two's complement: v, or from half the range on v less the range

@@ -15,7 +15,7 @@ use Rattle.choices.specs.declared.LoveModel.{LoveModel}
 use Rattle.choices.specs.Numbers.{Told}
 use Rattle.choices.specs.Numbers.Told.{accepted, refused}
 use Rattle.field.specs.Field.{place}
-use Rattle.field.specs.Outcome.{Outcome, corrected, unlessRefused}
+use Rattle.field.specs.Outcome.{firstOf, Outcome, corrected, unlessRefused}
 use Rattle.field.proofs.Entries.{corrected-elsewhere}
 use Rattle.bodies.specs.declared.Body.{Body}
 use Rattle.corrections.specs.Corrections.{Counts, corrections}
@@ -87,12 +87,12 @@ module _ (n : ℕ) (c s : List ℤ) (moon sun : Body) (love : LoveModel) where
   -- "All other entries equal to before"
   pub others-kept : (k : ℕ) → (k < 3) ⊎ (13 ≤ k)
       → (getD (stepOne n c s moon sun love .c) k (pos 0) ≡ getD c k (pos 0)) × (getD (stepOne n c s moon sun love .s) k (pos 0) ≡ getD s k (pos 0))
-  unfolding stepOne
+  unfolding stepOne firstOf
   others-kept k h = by-answer (λ o. (getD (o .c) k (pos 0) ≡ getD c k (pos 0)) × (getD (o .s) k (pos 0) ≡ getD s k (pos 0))) _ c s _ _
       (λ o. (refl, refl)) (λ o. (outside c _ k h, outside s _ k h))
 
   -- "S(n,0) is never changed."
   pub order-zero-kept : (d : ℕ) → getD (stepOne n c s moon sun love .s) (place d 0) (pos 0) ≡ getD s (place d 0) (pos 0)
-  unfolding stepOne
+  unfolding stepOne firstOf
   order-zero-kept d = by-answer (λ o. getD (o .s) (place d 0) (pos 0) ≡ getD s (place d 0) (pos 0)) _ c s _ _ (λ o. refl)
       (λ o. order-zero s (countsOf (corrections moon sun love)) (zeros (corrections moon sun love) (no-order-zero moon sun love)) d)

@@ -4,7 +4,6 @@ use mathlib.Core.Bool.{true}
 use mathlib.Core.List.{List, [], _∷_}
 use Prim.Native.Nat.{ℕ, _≤_}
 use native.Mathlib.Omega.{arith}
-use borrow.Author.Tests.{ne-eqb}
 use lib.IntN.{ℤ}
 use lib.ListN.{length}
 use Rattle.choices.specs.declared.LoveModel.{LoveModel}
@@ -15,13 +14,13 @@ use Rattle.choices.specs.Numbers.{refusalNumber, answerNumber}
 use Rattle.choices.specs.Numbers.Told.{accepted}
 use Rattle.choices.proofs.Numbers.{refusal-not-zero}
 use Rattle.field.specs.Field.{size, place, everyInRange, fieldRefusal}
-use Rattle.field.specs.Outcome.{unlessRefused, Gives}
+use Rattle.field.specs.Outcome.{firstOf, unlessRefused, Gives}
 use Rattle.field.proofs.Entries.{entry-in-range}
-use Rattle.field.proofs.Outcomes.{place-below, gives-new, gives-kept}
+use Rattle.field.proofs.Outcomes.{place-below, gives-new, gives-kept, first-kept}
 use Rattle.bodies.specs.declared.Body.{Body}
 use Rattle.corrections.specs.declared.Corrections.{Corrections}
 use Rattle.corrections.specs.Corrections.{Counts, corrections, tells}
-use Rattle.step_one.specs.StepOne.{correctedRun, withoutPermanent, firstOf, stepOne}
+use Rattle.step_one.specs.StepOne.{correctedRun, withoutPermanent, stepOne}
 use Rattle.step_one.specs.Ready.{Small, Ready}
 
 -- a list of an accepted field, and counts to correct it by
@@ -35,20 +34,20 @@ kept number c s c′ s′ r e =
     subst (λ (x : ℕ). Gives (unlessRefused number c s c′ s′) x c s) e (gives-kept number c s c′ s′ (λ z. refusal-not-zero r (sym e ∙ z)))
 
 first-refused : (first second : ℕ) (r : Refusal) → first ≡ refusalNumber r → firstOf first second ≡ refusalNumber r
-first-refused first second r e = rw (ne-eqb first 0 (λ z. refusal-not-zero r (sym e ∙ z))) e
+first-refused first second r e = first-kept first second (λ z. refusal-not-zero r (sym e ∙ z)) ∙ e
 
 module _ (n : ℕ) (c s : List ℤ) (moon sun : Body) (love : LoveModel) where
   pub field-refused : (a : Answer) (r : Refusal) → answerNumber a ≡ fieldRefusal n c s → a ≡ Refused r → Gives (stepOne n c s moon sun love) (refusalNumber r) c s
-  unfolding stepOne
+  unfolding stepOne firstOf
   field-refused a r e h = kept _ c s _ _ r (first-refused (fieldRefusal n c s) _ r (sym e ∙ ap answerNumber h))
 
   module _ (passed : fieldRefusal n c s ≡ 0) where
     pub body-refused : (x : Corrections) (r : Refusal) → tells x ≡ corrections moon sun love → x .answer ≡ Refused r
         → Gives (stepOne n c s moon sun love) (refusalNumber r) c s
-    unfolding stepOne
+    unfolding stepOne firstOf
     body-refused x r e h = kept _ c s _ _ r (rw (passed, ← e, h))
 
     pub added : (k : Counts) → corrections moon sun love ≡ accepted k
         → Gives (stepOne n c s moon sun love) 0 (correctedRun c (withoutPermanent love (k .c)) 10) (correctedRun s (k .s) 10)
-    unfolding stepOne
+    unfolding stepOne firstOf
     added k e = rw (passed, e) (gives-new 0 c s _ _ refl)

@@ -1,15 +1,13 @@
 -- Document 01, "Step one": the call over two lent lists.
-use mathlib.Core.Bool.{cond}
 use mathlib.Core.List.{List, [], _∷_}
 use Prim.Native.Nat.{ℕ, zero, suc}
-use lib.Dec.{eqb}
 use lib.IntN.{ℤ, pos, _-ℤ_}
 use lib.ListN.{getD, set}
 use Rattle.choices.specs.declared.LoveModel.{LoveModel}
 use Rattle.choices.specs.Numbers.{Told}
 use Rattle.choices.specs.Numbers.Told.{accepted, refused}
 use Rattle.field.specs.Field.{place, fieldRefusal}
-use Rattle.field.specs.Outcome.{Outcome, corrected, unlessRefused}
+use Rattle.field.specs.Outcome.{Outcome, corrected, firstOf, unlessRefused}
 use Rattle.permanent.specs.Systems.{permanentPart}
 use Rattle.bodies.specs.declared.Body.{Body}
 use Rattle.corrections.specs.Corrections.{Counts, corrections}
@@ -39,9 +37,6 @@ countsOf (accepted k) = k
 countsOf (refused number) = record { c = []; s = [] }
 
 -- 1 and 2 come before the bodies' numbers
-abbrev pub firstOf : ℕ → ℕ → ℕ
-firstOf first second = cond (eqb first 0) second first
-
 unfoldable pub stepOne : ℕ → List ℤ → List ℤ → Body → Body → LoveModel → Outcome
 stepOne n c s moon sun love =
     let told = corrections moon sun love in

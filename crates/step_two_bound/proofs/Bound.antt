@@ -15,11 +15,11 @@ use Rattle.field.specs.Field.{place, fieldRefusal}
 use Rattle.field.proofs.Outcomes.{accepted-field, degree-two}
 use Rattle.wave.specs.Wave.{sin, cos}
 use Rattle.series.specs.Exact.{bottom, factorial, denominator, scale, exact-sin, exact-cos}
-use Rattle.series.proofs.Within.{Within, within-negated, within-nearest}
+use Rattle.whole.proofs.Within.{Within, within-negated, within-nearest}
 use Rattle.series.proofs.Sums.{sines-near, cosines-near, waves-near}
 use Rattle.whole.specs.Sum.{weightTo}
 use Rattle.whole.proofs.Ring.{equal, !, _⊕_, _⊖_}
-use Rattle.whole.proofs.Sums.{weight-size}
+use Rattle.whole.proofs.Running.{weight-size}
 use Rattle.step_two.specs.declared.Column.the-variants.{First, Second}
 use Rattle.step_two.specs.StepTwo.{inCounts, columnOf, linePhase, sumC20, sumC21, sumS21, sumC22, sumS22, rounded, corrections, stepTwo}
 use Rattle.step_two.proofs.Sizes.{amplitude-size}
@@ -29,7 +29,7 @@ use Rattle.step_two_bound.specs.Exact.{partsOfACount, lessThanOneCount, 
 
 -- at most 49 amplitudes, added up
 weight : (a : ℕ → ℤ) → ((i : ℕ) → natAbs (a i) ≤ 2 ^ 19) → (n : ℕ) → n ≤ 49 → weightTo a n ≤ 2 ^ 25
-weight a small n h = omega (arith, weight-size a (2 ^ 19) small n)
+weight a small n h = omega (arith, weight-size a (2 ^ 19) n (λ i l. small i))
 
 some : 0 < scale
 unfolding scale denominator bottom factorial

@@ -10,9 +10,10 @@ use Rattle.choices.specs.declared.Frame.{Frame}
 use Rattle.choices.specs.declared.LoveModel.{LoveModel}
 use Rattle.corrections.specs.Corrections.{corrections}
 use Rattle.field.specs.Field.{fieldRefusal}
+use Rattle.field.specs.Outcome.{firstOf}
 use Rattle.field.proofs.Outcomes.{outcome-number, refused-untouched}
 use Rattle.ocean.specs.Ocean.{oceanRefusal, oceanTide}
-use Rattle.step_one.specs.StepOne.{firstOf, refusalOf, stepOne}
+use Rattle.step_one.specs.StepOne.{refusalOf, stepOne}
 use Rattle.step_two.specs.StepTwo.{stepTwo}
 
 module _ (n : ℕ) (c s : List ℤ) where

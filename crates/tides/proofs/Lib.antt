@@ -1,4 +1,3 @@
 pub mod Kept
-pub mod Running
 pub mod Sizes
 pub mod Factors

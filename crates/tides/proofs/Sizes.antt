@@ -8,15 +8,15 @@ use Rattle.whole.specs.Sum.{sumTo}
 use Rattle.whole.proofs.Rounding.{nearest-size}
 use Rattle.sheet.specs.Sheet.{lineCount, tideCount, admittance}
 use Rattle.sheet.proofs.Acceptance.{Accepted}
-use Rattle.sheet.proofs.Counted.{weight-grows}
+use Rattle.whole.proofs.Counted.{weight-grows}
 use Rattle.tides.specs.Tides.{lineSum, factor}
-use Rattle.tides.proofs.Running.{sum-small}
+use Rattle.whole.proofs.Running.{sum-size}
 
 module _ {s : List ℕ} (A : Accepted s) (w : ℕ → ℤ) (small : (f : ℕ) → f < lineCount s → natAbs (w f) ≤ 2 ^ 30) (k : ℕ) (h : k < tideCount s) where
   -- any first part of a tide's sum
   part-size : (n : ℕ) → n ≤ lineCount s → natAbs (sumTo (λ f. admittance s k f *ℤ w f) n) ≤ 4000000 * 2 ^ 30
   part-size n l =
-      omega (arith, sum-small (admittance s k) w (2 ^ 30) n (λ f g. small f (omega arith)), mul-le-mul-right (2 ^ 30) (weight-grows (admittance s k) n (lineCount s) l), A .row k h)
+      omega (arith, sum-size (admittance s k) w (2 ^ 30) n (λ f g. small f (omega arith)), mul-le-mul-right (2 ^ 30) (weight-grows (admittance s k) n (lineCount s) l), A .row k h)
 
   pub line-room : (f : ℕ) → f < lineCount s → natAbs (admittance s k f) ≤ 2 ^ 31
       → natAbs (sumTo (λ f. admittance s k f *ℤ w f) f) + natAbs (admittance s k f) * natAbs (w f) < 2 ^ 63

@@ -5,3 +5,6 @@ pub mod Machine
 pub mod Floor
 pub mod Rounding
 pub mod Sums
+pub mod Counted
+pub mod Running
+pub mod Within

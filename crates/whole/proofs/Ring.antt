@@ -1,11 +1,10 @@
--- Equations and orders of ℤ by one `omega`: an expression over integers is written once as data, and its two parts are polynomials in the variables' parts, which antt computes.
-use mathlib.Core.Path.{_≡_, refl, sym, ap, ap₂, subst, _∙_}
+-- Equations of ℤ by one `omega`: an expression over integers is written once as data, and its two parts are polynomials in the variables' parts, which antt computes.
+use mathlib.Core.Path.{_≡_, ap}
 use mathlib.Core.List.{List, [], _∷_}
-use Prim.Native.Nat.{ℕ, zero, suc, _+_, _*_, _≤_, _<_}
+use Prim.Native.Nat.{ℕ, zero, suc, _+_, _*_}
 use native.Mathlib.Omega.{arith}
-use lib.IntN.{ℤ, pos, negsuc, negℤ, natAbs, _+ℤ_, _-ℤ_, _*ℤ_}
-use lib.Signed.{_≤ℤ_}
-use Rattle.whole.proofs.Parts.{up, dn, same, below, sum, difference, product, up-neg, dn-neg, abs-le}
+use lib.IntN.{ℤ, pos, negℤ, _+ℤ_, _-ℤ_, _*ℤ_}
+use Rattle.whole.proofs.Parts.{up, dn, same, sum, difference, product, up-neg, dn-neg}
 
 infixl 6 _⊕_ _⊖_
 infixl 7 _⊗_
@@ -63,9 +62,3 @@ sound (⊝ a) ρ = omega (arith, sound a ρ, up-neg (value a ρ), dn-neg (value 
 
 pub equal : (a b : Z) (ρ : List ℤ) → over a ρ + under b ρ ≡ over b ρ + under a ρ → value a ρ ≡ value b ρ
 equal a b ρ h = same (value a ρ) (value b ρ) (omega (arith, sound a ρ, sound b ρ))
-
-pub at-most : (a b : Z) (ρ : List ℤ) → over a ρ + under b ρ ≤ over b ρ + under a ρ → value a ρ ≤ℤ value b ρ
-at-most a b ρ h = below (value a ρ) (value b ρ) (omega (arith, sound a ρ, sound b ρ))
-
-pub within : (a : Z) (ρ : List ℤ) (e : ℕ) → over a ρ ≤ e + under a ρ → under a ρ ≤ e + over a ρ → natAbs (value a ρ) ≤ e
-within a ρ e h k = abs-le (value a ρ) e (omega (arith, sound a ρ)) (omega (arith, sound a ρ))

@@ -6,7 +6,7 @@ use borrow.Author.Needs.{needs}
 use Rattle.whole.specs.Sum.{allTo}
 use Rattle.sheet.specs.Sheet.{tideCount}
 use Rattle.sheet.specs.Accepted.{countsValid}
-use Rattle.sheet.proofs.Counted.{all-none, all-more}
+use Rattle.whole.proofs.Counted.{all-none, all-more}
 use Rattle.accept.proofs.are_all_counts.Statement.{statement}
 use Rattle.accept.proofs.are_all_counts.Tie as tie
 

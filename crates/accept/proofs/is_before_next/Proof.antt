@@ -27,4 +27,13 @@ unfolding precedes
 returns c = rw (c .before .before .before .degree-at .ensures, c .before .before .order-at .ensures, c .before .degree-at2 .ensures, c .order-at2 .ensures)
 
 pub is-before-next-spec : {M : Type 1} → statement M
-is-before-next-spec = tie.close (tie.spec degree-at-requires order-at-requires add-degree-at degree-at-requires-2 add-order-at order-at-requires-2 returns)
+is-before-next-spec =
+    tie.close
+    (tie.spec
+    degree-at-requires
+    order-at-requires
+    add-degree-at
+    degree-at-requires-2
+    add-order-at
+    order-at-requires-2
+    returns)

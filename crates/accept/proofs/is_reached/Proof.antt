@@ -6,7 +6,7 @@ use borrow.Author.Needs.{needs}
 use Rattle.whole.specs.Sum.{allTo}
 use Rattle.sheet.specs.Sheet.{placeCount, degree}
 use Rattle.sheet.specs.Accepted.{reached}
-use Rattle.sheet.proofs.Counted.{all-none, all-more}
+use Rattle.whole.proofs.Counted.{all-none, all-more}
 use lib.Dec.{leb}
 use Rattle.accept.proofs.is_reached.Statement.{statement}
 use Rattle.accept.proofs.is_reached.Tie as tie

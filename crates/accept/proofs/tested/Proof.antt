@@ -5,12 +5,22 @@ use borrow.Author.Needs.{needs}
 use Rattle.choices.specs.Numbers.{answerNumber}
 use Rattle.choices.proofs.Numbers.{refusal-not-zero}
 use Rattle.sheet.specs.Accepted.{reached, ownRefusal, sheetRefusal}
-use Rattle.sheet.proofs.Acceptance.{accepted, first-passed, first-kept}
+use Rattle.field.proofs.Outcomes.{first-passed, first-kept}
+use Rattle.sheet.proofs.Acceptance.{accepted}
 use Rattle.accept.proofs.tested.Statement.{statement}
 use Rattle.accept.proofs.tested.Tie as tie
 
-passed : (c : tie.After-enum-told) → ownRefusal (c .before .before .before .before .args .sheet .now) ≡ 0
-passed c = sym (c .before .before .tested-alone .ensures) ∙ ap answerNumber (c .enum-told .given .1)
+-- where the sheet passed by itself
+module _ (c : tie.After-enum-told) where
+  abbrev start : tie.Start
+  start = c .before .before .before .before
+
+  passed : ownRefusal (start .args .sheet .now) ≡ 0
+  passed = sym (c .before .before .tested-alone .ensures) ∙ ap answerNumber (c .enum-told .given .1)
+
+  past : sheetRefusal (start .args .sheet .now) (start .args .n) ≡ cond (reached (start .args .sheet .now) (start .args .n)) 0 9
+  unfolding sheetRefusal
+  past = first-passed _ _ passed
 
 tested-alone-requires : tie.Need-tested-alone-requires
 tested-alone-requires c κs = search needs
@@ -28,12 +38,10 @@ enum-known-why : tie.Need-enum-known-why
 enum-known-why c = search needs
 
 returns : tie.Need-returns
-unfolding sheetRefusal
-returns c = rw (first-passed _ (cond (reached (c .before .before .before .before .before .before .before .args .sheet .now) (c .before .before .before .before .before .before .before .args .n)) 0 9) (passed (c .before .before .before)), sym (c .before .is-reached .ensures) ∙ c .if1 .taken)
+returns c = rw (past (c .before .before .before), sym (c .before .is-reached .ensures) ∙ c .if1 .taken)
 
 returns-2 : tie.Need-returns-2
-unfolding sheetRefusal
-returns-2 c = rw (first-passed _ (cond (reached (c .before .before .before .before .before .before .before .args .sheet .now) (c .before .before .before .before .before .before .before .args .n)) 0 9) (passed (c .before .before .before)), sym (c .before .is-reached .ensures) ∙ c .if1 .left)
+returns-2 c = rw (past (c .before .before .before), sym (c .before .is-reached .ensures) ∙ c .if1 .left)
 
 returns-3 : tie.Need-returns-3
 unfolding sheetRefusal
@@ -43,4 +51,14 @@ returns-3 c =
     e ∙ sym (first-kept _ _ (λ z. refusal-not-zero (why .0 .0) (e ∙ z)))
 
 pub tested-spec : {M : Type 1} → statement M
-tested-spec = tie.close (tie.spec tested-alone-requires enum-told layout-of-requires is-reached-requires enum-known-why returns returns-2 returns-3)
+tested-spec =
+    tie.close
+    (tie.spec
+    tested-alone-requires
+    enum-told
+    layout-of-requires
+    is-reached-requires
+    enum-known-why
+    returns
+    returns-2
+    returns-3)

@@ -98,4 +98,15 @@ returns c =
     }
 
 pub add-tide-spec : {M : Type 1} → statement M
-add-tide-spec = tie.close (tie.spec layout-of-requires waves-of-requires factors-of-requires factors-of-requires-2 add-places-requires add-places-requires-2 same-length same-length-2 returns)
+add-tide-spec =
+    tie.close
+    (tie.spec
+    layout-of-requires
+    waves-of-requires
+    factors-of-requires
+    factors-of-requires-2
+    add-places-requires
+    add-places-requires-2
+    same-length
+    same-length-2
+    returns)

@@ -71,4 +71,16 @@ returns-2 c =
     record { answer = t .ensures ∙ g .answer; list-c = g .list-c; list-s = g .list-s }
 
 pub ocean-tide-spec : {M : Type 1} → statement M
-ocean-tide-spec = tie.close (tie.spec tested-requires enum-told add-tide-requires enum-told-2 same-length same-length-2 returns same-length-3 same-length-4 returns-2)
+ocean-tide-spec =
+    tie.close
+    (tie.spec
+    tested-requires
+    enum-told
+    add-tide-requires
+    enum-told-2
+    same-length
+    same-length-2
+    returns
+    same-length-3
+    same-length-4
+    returns-2)

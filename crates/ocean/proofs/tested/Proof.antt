@@ -3,7 +3,7 @@ use mathlib.Core.Path.{sym, ap, _∙_}
 use borrow.Author.Needs.{needs}
 use Rattle.choices.specs.Numbers.{answerNumber}
 use Rattle.choices.proofs.Numbers.{refusal-not-zero}
-use Rattle.sheet.proofs.Acceptance.{first-passed, first-kept}
+use Rattle.field.proofs.Outcomes.{first-passed, first-kept}
 use Rattle.ocean.specs.Ocean.{oceanRefusal}
 use Rattle.ocean.proofs.tested.Statement.{statement}
 use Rattle.ocean.proofs.tested.Tie as tie

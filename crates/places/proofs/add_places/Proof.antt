@@ -111,4 +111,17 @@ returns c =
     c .before .loop .inv .1 ∙ ap (added (s .args .sheet .now) d (s .args .list .now)) e
 
 pub add-places-spec : {M : Type 1} → statement M
-add-places-spec = tie.close (tie.spec Inv-loop μ-loop loop-holds index-of-requires correction-of-requires correct-requires add-j loop-less loop-again same-length returns)
+add-places-spec =
+    tie.close
+    (tie.spec
+    Inv-loop
+    μ-loop
+    loop-holds
+    index-of-requires
+    correction-of-requires
+    correct-requires
+    add-j
+    loop-less
+    loop-again
+    same-length
+    returns)

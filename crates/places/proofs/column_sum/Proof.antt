@@ -13,7 +13,7 @@ use Rattle.sheet.specs.Sheet.{tideCount, coefficient}
 use Rattle.sheet.proofs.Acceptance.{accepted, whole-of}
 use Rattle.sheet.proofs.Signs.{told}
 use Rattle.tides.specs.Tides.{held}
-use Rattle.tides.proofs.Running.{room, grown}
+use Rattle.whole.proofs.Running.{room, grown}
 use Rattle.places.specs.Held.{columnSum}
 use Rattle.places.proofs.Sizes.{column-room}
 use Rattle.places.proofs.column_sum.Statement.{statement}
@@ -89,4 +89,17 @@ returns c =
     c .before .loop .inv .1 ∙ ap (sumTo (λ i. held (s .args .factors .now) i *ℤ coefficient (s .args .sheet .now) (s .args .j) i (s .args .q))) e
 
 pub column-sum-spec : {M : Type 1} → statement M
-column-sum-spec = tie.close (tie.spec Inv-loop μ-loop loop-holds coefficient-at-requires mul-plus-product element-copy-out-plus-product plus-product-requires add-k loop-less loop-again returns)
+column-sum-spec =
+    tie.close
+    (tie.spec
+    Inv-loop
+    μ-loop
+    loop-holds
+    coefficient-at-requires
+    mul-plus-product
+    element-copy-out-plus-product
+    plus-product-requires
+    add-k
+    loop-less
+    loop-again
+    returns)

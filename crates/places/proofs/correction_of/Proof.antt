@@ -72,4 +72,14 @@ returns-2 c =
     rw (sym (skip-told (a .before .before .before)) ∙ a .before .before .if1 .left) (told w64 (c .rounded .ok) (c .rounded .ensures ∙ ap (λ (z : ℤ). nearest z (2 ^ 30)) e))
 
 pub correction-of-spec : {M : Type 1} → statement M
-correction-of-spec = tie.close (tie.spec degree-at-requires is-skipped-requires returns column-sum-requires column-sum-requires-2 add-rounded rounded-requires returns-2)
+correction-of-spec =
+    tie.close
+    (tie.spec
+    degree-at-requires
+    is-skipped-requires
+    returns
+    column-sum-requires
+    column-sum-requires-2
+    add-rounded
+    rounded-requires
+    returns-2)

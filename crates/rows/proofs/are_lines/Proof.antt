@@ -5,7 +5,7 @@ use native.Mathlib.Omega.{arith}
 use borrow.Author.Needs.{needs}
 use Rattle.whole.specs.Sum.{allTo}
 use Rattle.sheet.specs.Accepted.{lineValid}
-use Rattle.sheet.proofs.Counted.{all-none, all-more}
+use Rattle.whole.proofs.Counted.{all-none, all-more}
 use Rattle.rows.proofs.are_lines.Statement.{statement}
 use Rattle.rows.proofs.are_lines.Tie as tie
 

@@ -7,7 +7,7 @@ use lib.Dec.{leb}
 use Rattle.whole.specs.Sum.{allTo}
 use Rattle.sheet.specs.Sheet.{tideCount}
 use Rattle.sheet.specs.Accepted.{rowValid}
-use Rattle.sheet.proofs.Counted.{all-none, all-more}
+use Rattle.whole.proofs.Counted.{all-none, all-more}
 use Rattle.rows.proofs.are_rows.Statement.{statement}
 use Rattle.rows.proofs.are_rows.Tie as tie
 

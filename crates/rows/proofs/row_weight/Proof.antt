@@ -7,7 +7,7 @@ use lib.IntN.{natAbs}
 use mir.Syntax.{w64}
 use Rattle.whole.specs.Sum.{weightTo}
 use Rattle.sheet.specs.Sheet.{lineCount, admittance}
-use Rattle.sheet.proofs.Counted.{weight-none, weight-more}
+use Rattle.whole.proofs.Counted.{weight-none, weight-more}
 use Rattle.whole.proofs.Machine.{back}
 use Rattle.sheet.proofs.Signs.{told}
 use Rattle.rows.proofs.row_weight.Statement.{statement}
@@ -50,4 +50,16 @@ returns c =
     c .before .loop .inv .1 ∙ ap (weightTo (admittance (s .args .sheet .now) (s .args .k))) e
 
 pub row-weight-spec : {M : Type 1} → statement M
-row-weight-spec = tie.close (tie.spec Inv-loop μ-loop loop-holds admittance-at-requires magnitude-requires add-sum add-f loop-less loop-again returns)
+row-weight-spec =
+    tie.close
+    (tie.spec
+    Inv-loop
+    μ-loop
+    loop-holds
+    admittance-at-requires
+    magnitude-requires
+    add-sum
+    add-f
+    loop-less
+    loop-again
+    returns)

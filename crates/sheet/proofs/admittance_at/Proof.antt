@@ -40,4 +40,13 @@ returns c =
     rw (back w64 (r .result) (r .ok)) (r .ensures .0 ∙ e, r .ensures .1)
 
 pub admittance-at-spec : {M : Type 1} → statement M
-admittance-at-spec = tie.close (tie.spec mul-signed-at mul-signed-at-2 add-signed-at mul-signed-at-3 add-signed-at-2 signed-at-requires returns)
+admittance-at-spec =
+    tie.close
+    (tie.spec
+    mul-signed-at
+    mul-signed-at-2
+    add-signed-at
+    mul-signed-at-3
+    add-signed-at-2
+    signed-at-requires
+    returns)

@@ -52,4 +52,17 @@ returns c =
     rw (back w64 (r .result) (r .ok)) (r .ensures .0 ∙ e, r .ensures .1)
 
 pub coefficient-at-spec : {M : Type 1} → statement M
-coefficient-at-spec = tie.close (tie.spec mul-signed-at add-signed-at mul-signed-at-2 add-signed-at-2 add-signed-at-3 mul-signed-at-3 add-signed-at-4 mul-signed-at-4 add-signed-at-5 signed-at-requires returns)
+coefficient-at-spec =
+    tie.close
+    (tie.spec
+    mul-signed-at
+    add-signed-at
+    mul-signed-at-2
+    add-signed-at-2
+    add-signed-at-3
+    mul-signed-at-3
+    add-signed-at-4
+    mul-signed-at-4
+    add-signed-at-5
+    signed-at-requires
+    returns)

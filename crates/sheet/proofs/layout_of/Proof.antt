@@ -65,4 +65,23 @@ returns : tie.Need-returns
 returns c = laid (c .before .before .before .before .args .sheet .now) _ _ _ (c .before .before .half-at .ensures .0) (c .before .half-at2 .ensures .0) (c .half-at3 .ensures .0)
 
 pub layout-of-spec : {M : Type 1} → statement M
-layout-of-spec = tie.close (tie.spec half-at-requires mul-tides-at add-tides-at half-at-requires-2 add-count-at mul-count-at mul-count-at-2 add-count-at-2 half-at-requires-3 add-t7 add-t9 add-t8 mul-t10 add-t11 mul-t12 add-t13 returns)
+layout-of-spec =
+    tie.close
+    (tie.spec
+    half-at-requires
+    mul-tides-at
+    add-tides-at
+    half-at-requires-2
+    add-count-at
+    mul-count-at
+    mul-count-at-2
+    add-count-at-2
+    half-at-requires-3
+    add-t7
+    add-t9
+    add-t8
+    mul-t10
+    add-t11
+    mul-t12
+    add-t13
+    returns)

@@ -37,4 +37,13 @@ returns c =
     )
 
 pub multipliers-at-spec : {M : Type 1} → statement M
-multipliers-at-spec = tie.close (tie.spec multiplier-at-requires multiplier-at-requires-2 multiplier-at-requires-3 multiplier-at-requires-4 multiplier-at-requires-5 multiplier-at-requires-6 returns)
+multipliers-at-spec =
+    tie.close
+    (tie.spec
+    multiplier-at-requires
+    multiplier-at-requires-2
+    multiplier-at-requires-3
+    multiplier-at-requires-4
+    multiplier-at-requires-5
+    multiplier-at-requires-6
+    returns)

@@ -81,4 +81,17 @@ returns c =
     rw e at (c .before .loop .inv .2)
 
 pub factors-of-spec : {M : Type 1} → statement M
-factors-of-spec = tie.close (tie.spec Inv-loop μ-loop loop-holds line-sum-requires nearest-million-requires mul-factors array-set-from-factors add-k loop-less loop-again returns)
+factors-of-spec =
+    tie.close
+    (tie.spec
+    Inv-loop
+    μ-loop
+    loop-holds
+    line-sum-requires
+    nearest-million-requires
+    mul-factors
+    array-set-from-factors
+    add-k
+    loop-less
+    loop-again
+    returns)

@@ -13,7 +13,7 @@ use Rattle.sheet.specs.Sheet.{lineCount, admittance}
 use Rattle.sheet.proofs.Acceptance.{accepted, whole-of}
 use Rattle.sheet.proofs.Signs.{told}
 use Rattle.tides.specs.Tides.{lineSum, held}
-use Rattle.tides.proofs.Running.{room, grown}
+use Rattle.whole.proofs.Running.{room, grown}
 use Rattle.tides.proofs.Sizes.{line-room}
 use Rattle.tides.proofs.line_sum.Statement.{statement}
 use Rattle.tides.proofs.line_sum.Tie as tie
@@ -88,4 +88,17 @@ returns c =
     c .before .loop .inv .1 ∙ ap (sumTo (λ i. admittance (s .args .sheet .now) (s .args .k) i *ℤ held (s .args .waves .now) i)) e
 
 pub line-sum-spec : {M : Type 1} → statement M
-line-sum-spec = tie.close (tie.spec Inv-loop μ-loop loop-holds admittance-at-requires mul-plus-product element-copy-out-plus-product plus-product-requires add-f loop-less loop-again returns)
+line-sum-spec =
+    tie.close
+    (tie.spec
+    Inv-loop
+    μ-loop
+    loop-holds
+    admittance-at-requires
+    mul-plus-product
+    element-copy-out-plus-product
+    plus-product-requires
+    add-f
+    loop-less
+    loop-again
+    returns)

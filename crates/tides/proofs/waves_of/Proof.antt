@@ -78,4 +78,21 @@ returns c =
     record { cosines = rw e at (l .inv .3); sines = rw e at (l .inv .4) }
 
 pub waves-of-spec : {M : Type 1} → statement M
-waves-of-spec = tie.close (tie.spec Inv-loop μ-loop loop-holds multipliers-at-requires phase-of-requires cosine-of-requires mul-cosines array-set-from-cosines sine-of-requires mul-sines array-set-from-sines add-f loop-less loop-again returns)
+waves-of-spec =
+    tie.close
+    (tie.spec
+    Inv-loop
+    μ-loop
+    loop-holds
+    multipliers-at-requires
+    phase-of-requires
+    cosine-of-requires
+    mul-cosines
+    array-set-from-cosines
+    sine-of-requires
+    mul-sines
+    array-set-from-sines
+    add-f
+    loop-less
+    loop-again
+    returns)

@@ -7,24 +7,24 @@ use lib.IntN.{ℤ, natAbs, _+ℤ_, _*ℤ_}
 use lib.Signed.{mag}
 use mir.Syntax.{w64}
 use mir.Val.{toZ, ofZ}
 use Rattle.whole.specs.Sum.{sumTo, weightTo}
 use Rattle.whole.proofs.Machine.{back}
 use Rattle.whole.proofs.Parts.{abs-sum, abs-product}
 use Rattle.whole.proofs.Sums.{sum-next}
 
 -- where each a in the run is at most e, n of them add up to at most n * e
-pub weight-small : (a : ℕ → ℤ) (e n : ℕ) → ((i : ℕ) → i < n → natAbs (a i) ≤ e) → weightTo a n ≤ n * e
+pub weight-size : (a : ℕ → ℤ) (e n : ℕ) → ((i : ℕ) → i < n → natAbs (a i) ≤ e) → weightTo a n ≤ n * e
 unfolding weightTo
-weight-small a e zero h = zero-le
-weight-small a e (suc n) h = omega (arith, h n (omega arith), weight-small a e n (λ i l. h i (omega arith)))
+weight-size a e zero h = zero-le
+weight-size a e (suc n) h = omega (arith, h n (omega arith), weight-size a e n (λ i l. h i (omega arith)))
 
 module _ (a w : ℕ → ℤ) where
   -- where each w in the run is at most e, the sum is at most e times the absolute values of a, added up
-  pub sum-small : (e n : ℕ) → ((i : ℕ) → i < n → natAbs (w i) ≤ e) → natAbs (sumTo (λ i. a i *ℤ w i) n) ≤ weightTo a n * e
+  pub sum-size : (e n : ℕ) → ((i : ℕ) → i < n → natAbs (w i) ≤ e) → natAbs (sumTo (λ i. a i *ℤ w i) n) ≤ weightTo a n * e
   unfolding sumTo weightTo
-  sum-small e zero h = zero-le
-  sum-small e (suc n) h =
-      omega (arith, abs-sum (sumTo (λ i. a i *ℤ w i) n) (a n *ℤ w n), abs-product (a n) (w n), mul-le-mul-left (natAbs (a n)) (h n (omega arith)), sum-small e n (λ i l. h i (omega arith)))
+  sum-size e zero h = zero-le
+  sum-size e (suc n) h =
+      omega (arith, abs-sum (sumTo (λ i. a i *ℤ w i) n) (a n *ℤ w n), abs-product (a n) (w n), mul-le-mul-left (natAbs (a n)) (h n (omega arith)), sum-size e n (λ i l. h i (omega arith)))
 
   -- a turn: the sum so far and the two factors, as the machine reads them
   module _ (i : ℕ) {t x y : ℤ} (S : t ≡ sumTo (λ j. a j *ℤ w j) i) (X : x ≡ a i) (Y : y ≡ w i) where
