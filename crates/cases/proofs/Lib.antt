@@ -1,1 +1,2 @@
+pub mod Ocean
 pub mod Proved

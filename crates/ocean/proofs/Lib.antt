@@ -1,3 +1,2 @@
 pub mod Passing
 pub mod Entries
-pub mod Cases

@@ -1,0 +1,53 @@
+-- Every listing has room in 256 bytes, so that a listing that was put at a buffer's start stands there whole.
+use mathlib.Core.Path.{_≡_, ap, _∙_}
+use mathlib.Core.Bool.{Bool, true, false, cond}
+use mathlib.Core.List.{List, _++_}
+use Prim.Native.Nat.{ℕ, _+_, _≤_}
+use native.Mathlib.Nat.{zero-add}
+use native.Mathlib.Omega.{arith}
+use lib.Dec.{eqb}
+use lib.ListN.{length, drop, length-append}
+use lib.Seq.{sets-eq}
+use Rattle.arguments.specs.declared.Phases.{Phases}
+use Rattle.choices.specs.declared.LoveModel.the-variants.{Elastic, Anelastic}
+use Rattle.step_two.specs.declared.Corrections.{Corrections}
+use Rattle.step_two.specs.Room.{Small}
+use Rattle.step_two.proofs.Bands.{corrections-small}
+use Rattle.listing.specs.Text.{ascii}
+use Rattle.listing.specs.Listing.{phasesOf, line, lines, listingOf, Listed}
+use Rattle.listing.specs.Put.{Put}
+use Rattle.listing.proofs.Columns.{column-most}
+
+pub line-most : (model : List ℕ) {d : Corrections} → Small d → length (line model d) ≤ length model + 106
+unfolding ascii line
+line-most model {d} s =
+    simp length-append (omega (arith, column-most (d .c20) (omega (arith, s .c20)), column-most (d .c21) (omega (arith, s .c21)), column-most (d .s21) (omega (arith, s .s21)), column-most (d .c22) (omega (arith, s .c22)), column-most (d .s22) (omega (arith, s .s22))))
+
+lines-most : (b : Phases) → length (lines b) ≤ 256
+unfolding ascii lines
+lines-most b =
+    simp length-append (omega (arith, line-most (ascii "elastic") (corrections-small b Elastic), line-most (ascii "anelastic") (corrections-small b Anelastic)))
+
+listing-most : (input : List ℕ) → length (listingOf input) ≤ 256
+unfolding ascii listingOf
+listing-most input = most (eqb (length input) 24)
+  where
+    most : (b : Bool) → length (cond b (lines (phasesOf input)) (ascii "refused\n")) ≤ 256
+    most true = lines-most (phasesOf input)
+    most false = omega arith
+
+-- a text put at the buffer's start is listed
+pub listed : (input before after text : List ℕ) (n : ℕ) → listingOf input ≡ text → 256 ≤ length before → Put before 0 text after n → Listed input before after n
+listed input before after text n e h p =
+    let p′ : Put before 0 (listingOf input) after n = rw e p in
+    record {
+      count-is = p′ .next-is ∙ zero-add (length (listingOf input));
+      bytes-are =
+          p′ .bytes-are
+          ∙ sets-eq (listingOf input) before 0 (omega (arith, listing-most input))
+          ∙ ap (λ (k : ℕ). listingOf input ++ drop k before) (zero-add (length (listingOf input)));
+    }
+
+pub listed-within : {input before after : List ℕ} {n : ℕ} → Listed input before after n → n ≤ length after
+listed-within {input} {before} {after} {n} l =
+    omega (arith, l .count-is, ap length (l .bytes-are), length-append (listingOf input) (drop (length (listingOf input)) before))
