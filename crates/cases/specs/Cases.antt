@@ -3,7 +3,7 @@ use mathlib.Core.Path.{_≡_}
 use mathlib.Core.Bool.{true, false}
 use mathlib.Core.List.{List, [], _∷_, _++_, map}
 use Prim.Native.Nat.{ℕ, _*_, _^_}
-use lib.Ieee.{binary64, round, ofBits}
+use lib.Ieee.{binary64, round}
 use lib.IntN.{ℤ, pos, negℤ}
 use lib.ListN.{replicate, set, take}
 use Rattle.arguments.specs.declared.Multipliers.{Multipliers}

@@ -8,9 +8,8 @@ use native.Mathlib.Omega.{arith}
 use lib.Dec.{leb}
 use lib.IntN.{ℤ, pos, natAbs, _+ℤ_, _-ℤ_}
 use Rattle.arguments.specs.declared.Multipliers.{Multipliers}
-use Rattle.choices.specs.Numbers.{Told}
 use Rattle.choices.specs.Numbers.Told.{accepted, refused}
-use Rattle.doodson.specs.Doodson.{digit, multipliersIn, numberOf, first, other, writable, readDoodson, writeDoodson}
+use Rattle.doodson.specs.Doodson.{digit, multipliersIn, numberOf, writable, readDoodson, writeDoodson}
 use Rattle.doodson.proofs.Digits.{digit-first, digit-other, digit-back, raised-small, raised-back, first-small, first-back, Writable, all-writable, writable-each}
 
 abbrev minus-five : ℕ → ℤ

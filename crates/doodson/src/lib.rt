@@ -3,7 +3,7 @@ ghost use mathlib.Core.Path.{_≡_};
 ghost use mathlib.Core.Bool.{true};
 ghost use Prim.Native.Nat.{_/_, _%_, _+_, _*_, _≤_};
 ghost use lib.IntN.{pos, natAbs, _+ℤ_, _-ℤ_};
-ghost use Rattle.doodson.specs.Doodson.{isDoodson, writable, other, readDoodson, writeDoodson, tellsRead, tellsWritten};
+ghost use Rattle.doodson.specs.Doodson.{isDoodson, multipliersIn, writable, other, readDoodson, writeDoodson, tellsRead, tellsWritten};
 use arguments::Multipliers;
 use choices::Refusal;
 
@@ -32,6 +32,20 @@ fn multiplier(number: u32, unit: u32) -> i32
     (number / unit % 10) as i32 - 5
 }
 
+// The multipliers in a number's last six digits.
+pub fn multipliers_in(number: u32) -> Multipliers
+    ensures { λ r. ⌜ r ≡ multipliersIn number ⌝ }
+{
+    Multipliers {
+        tau: (number / 100000 % 10) as i32,
+        s: multiplier(number, 10000),
+        h: multiplier(number, 1000),
+        p: multiplier(number, 100),
+        np: multiplier(number, 10),
+        ps: multiplier(number, 1),
+    }
+}
+
 // Given: a Doodson number.
 // Answered: its six multipliers.
 // Refused: 10, a number above 999,999.
@@ -39,14 +53,7 @@ pub fn multipliers_of(number: u32) -> Read
     ensures { λ r. ⌜ tellsRead r ≡ readDoodson number ⌝ }
 {
     if is_doodson(number) {
-        Read::Multipliers(Multipliers {
-            tau: (number / 100000 % 10) as i32,
-            s: multiplier(number, 10000),
-            h: multiplier(number, 1000),
-            p: multiplier(number, 100),
-            np: multiplier(number, 10),
-            ps: multiplier(number, 1),
-        })
+        Read::Multipliers(multipliers_in(number))
     } else {
         Read::Refused(Refusal::NotDoodson)
     }

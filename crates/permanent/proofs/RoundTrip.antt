@@ -1,5 +1,5 @@
 -- A C20 moved to another system and back, under the same Love numbers and neither move being refused, is the same number.
-use mathlib.Core.Path.{_≡_, refl, sym, ap, _∙_}
+use mathlib.Core.Path.{_≡_, sym, ap, _∙_}
 use mathlib.Core.Bool.{Bool, true, false, cond}
 use mathlib.Core.List.{[], _∷_}
 use Prim.Native.Nat.{ℕ}
@@ -7,7 +7,6 @@ use native.Mathlib.Omega.{arith}
 use lib.IntN.{ℤ, _+ℤ_, _-ℤ_}
 use Rattle.choices.specs.declared.LoveModel.{LoveModel}
 use Rattle.choices.specs.declared.PermanentSystem.{PermanentSystem}
-use Rattle.choices.specs.Numbers.{Told}
 use Rattle.choices.specs.Numbers.Told.{accepted, refused}
 use Rattle.field.specs.Field.{inRange}
 use Rattle.whole.proofs.Ring.{equal, !, _⊕_, _⊖_}

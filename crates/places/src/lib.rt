@@ -1,24 +1,14 @@
 // The corrections of a sheet's places (002; document 01, "Model sheet and ocean tide"), added to a list.
 ghost use mathlib.Core.Path.{_≡_};
-ghost use Prim.Native.Nat.{_^_, _≤_, _<_};
-ghost use lib.IntN.{natAbs};
+ghost use Prim.Native.Nat.{_<_};
 ghost use Rattle.field.specs.Field.{place};
 ghost use Rattle.sheet.specs.Read.{Passed};
 ghost use Rattle.sheet.specs.Sheet.{tideCount, placeCount, degree, order};
 ghost use Rattle.tides.specs.Tides.{held, Sized};
-ghost use Rattle.whole.specs.Nearest.{nearest};
 ghost use Rattle.places.specs.Places.{skipped, correction};
 ghost use Rattle.places.specs.Held.{columnSum, Ready, Wide, placesAdded};
 use choices::Frame;
 use sheet::Layout;
-
-// The whole number nearest x / 2^30. A full sheet's sum reaches 2^62.
-fn rounded(x: i64) -> i64
-    requires { ⌜ natAbs x ≤ 2 ^ 62 ⌝ }
-    ensures { λ r. ⌜ r ≡ nearest x (2 ^ 30) ⌝ }
-{
-    (x + 536870912) >> 30
-}
 
 // One column of place j, times the tides' factors, not rounded.
 fn column_sum(sheet: &[u8], l: Layout, j: usize, q: usize, factors: &[i64; 32]) -> i64
@@ -63,7 +53,7 @@ fn correction_of(
     if is_skipped(frame, sheet::degree_at(sheet, l, j)) {
         return 0;
     }
-    rounded(column_sum(sheet, l, j, p, cosines) + column_sum(sheet, l, j, q, sines))
+    whole::nearest_30(column_sum(sheet, l, j, p, cosines) + column_sum(sheet, l, j, q, sines))
 }
 
 // Where place j stands in a list.

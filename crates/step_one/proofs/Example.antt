@@ -1,5 +1,5 @@
 -- The worked Moon and Sun on a field of zeros: C20 is left without the permanent part, -3388628 less -4200675.
-use mathlib.Core.Path.{_≡_, refl}
+use mathlib.Core.Path.{_≡_}
 use mathlib.Core.List.{List, [], _∷_}
 use lib.IntN.{ℤ, pos, negℤ}
 use Rattle.choices.specs.declared.LoveModel.the-variants.{Anelastic}

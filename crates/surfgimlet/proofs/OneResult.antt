@@ -26,7 +26,10 @@ pub one-outcome : (o : Outcome) (a b : Answer) (c c′ s s′ : List ℤ) → Gi
 one-outcome o a b c c′ s s′ g h =
     (same-answer a b (g .answer ∙ sym (h .answer)), g .list-c ∙ sym (h .list-c), g .list-s ∙ sym (h .list-s))
 
--- ---- an answer with a value is known by what it tells
+-- ---- the other calls: an answer is known by what it tells, where it can be told back
+known : {E A : Type 0} (tells : E → Told A) (back : Told A → E) → ((r : E) → back (tells r) ≡ r) → (r q : E) → tells r ≡ tells q → r ≡ q
+known tells back again r q e = sym (again r) ∙ ap back e ∙ again q
+
 moved-of : Told ℤ → Moved
 moved-of (accepted z) = moved.C20 z
 moved-of (refused number) = moved.Refused (refusal-of number)
@@ -37,7 +40,7 @@ moved-again (moved.C20 z) = refl
 moved-again (moved.Refused r) = ap moved.Refused (refusal-again r)
 
 pub one-moved : (r q : Moved) → tellsMoved r ≡ tellsMoved q → r ≡ q
-one-moved r q e = sym (moved-again r) ∙ ap moved-of e ∙ moved-again q
+one-moved = known tellsMoved moved-of moved-again
 
 read-of : Told Multipliers → Read
 read-of (accepted n) = read.Multipliers n
@@ -49,7 +52,7 @@ read-again (read.Multipliers n) = refl
 read-again (read.Refused r) = ap read.Refused (refusal-again r)
 
 pub one-read : (r q : Read) → tellsRead r ≡ tellsRead q → r ≡ q
-one-read r q e = sym (read-again r) ∙ ap read-of e ∙ read-again q
+one-read = known tellsRead read-of read-again
 
 written-of : Told ℕ → Written
 written-of (accepted number) = written.Number number
@@ -61,7 +64,7 @@ written-again (written.Number number) = refl
 written-again (written.Refused r) = ap written.Refused (refusal-again r)
 
 pub one-written : (r q : Written) → tellsWritten r ≡ tellsWritten q → r ≡ q
-one-written r q e = sym (written-again r) ∙ ap written-of e ∙ written-again q
+one-written = known tellsWritten written-of written-again
 
 sought-of : Told Found → Sought
 sought-of (accepted f) = sought.Line (f .index) (f .first) (f .second)
@@ -73,4 +76,4 @@ sought-again (sought.Line i a b) = refl
 sought-again (sought.Refused r) = ap sought.Refused (refusal-again r)
 
 pub one-sought : (r q : Sought) → tellsSought r ≡ tellsSought q → r ≡ q
-one-sought r q e = sym (sought-again r) ∙ ap sought-of e ∙ sought-again q
+one-sought = known tellsSought sought-of sought-again

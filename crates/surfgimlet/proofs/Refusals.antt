@@ -1,6 +1,6 @@
 -- The first demand, of the calls over a field: which number is answered, in which order; and that a refused call leaves every entry.
 -- The numbers 1 and 2 exactly when the table says: `Rattle.field.proofs.Table.field-table`.
-use mathlib.Core.Path.{_≡_, subst, _∙_}
+use mathlib.Core.Path.{_≡_, _∙_}
 use mathlib.Core.List.{List}
 use Prim.Native.Nat.{ℕ}
 use lib.IntN.{ℤ}

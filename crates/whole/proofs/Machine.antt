@@ -1,16 +1,15 @@
 -- What the machine's tests of signed numbers say in parts, and that its operations fit.
 use mathlib.Core.Path.{_≡_, refl, sym, ap, subst, _∙_}
 use mathlib.Core.Bool.{Bool, true, false, not, _&&_}
-use Prim.Native.Nat.{ℕ, zero, suc, _+_, _-_, _*_, _^_, _≤_, _<_}
-use native.Mathlib.Nat.{mul-le-mul}
+use Prim.Native.Nat.{ℕ, suc, _+_, _-_, _^_, _≤_, _<_}
 use native.Mathlib.Omega.{arith}
 use lib.Dec.{T, leb, leb·suc-suc}
-use lib.IntN.{ℤ, pos, negsuc, negℤ, natAbs, _+ℤ_, _-ℤ_, _*ℤ_, +ℤ-idl}
+use lib.IntN.{ℤ, pos, negsuc, negℤ, natAbs, _+ℤ_, _-ℤ_, +ℤ-idl}
 use lib.Signed.{ltZ, leZ, ltZ-yes, ltZ-no, nonNeg, mag}
 use mir.Syntax.{Width}
 use mir.Val.{SFits, toZ, ofZ, hbits}
 use mir.Facts.{toZ-ofZ}
-use Rattle.whole.proofs.Parts.{up, dn, below→, less→, fits-abs, abs-sum, abs-product, abs, abs-le, difference, up-neg, dn-neg}
+use Rattle.whole.proofs.Parts.{up, dn, below→, less→, fits-abs, abs-sum, abs, abs-le, difference, up-neg, dn-neg}
 
 module _ (w : Width) {x y : ℤ} (fx : SFits w x) (fy : SFits w y) where
   pub lt-yes : ltZ (toZ w (ofZ w x)) (toZ w (ofZ w y)) ≡ true → up x + dn y < up y + dn x
@@ -35,9 +34,6 @@ sum-fits w a b h = fits-abs w (a +ℤ b) (omega (arith, abs-sum a b))
 
 pub difference-fits : (w : Width) (a b : ℤ) → natAbs a + natAbs b < 2 ^ hbits w → SFits w (a -ℤ b)
 difference-fits w a b h = fits-abs w (a -ℤ b) (omega (arith, abs-difference a b))
-
-pub product-fits : (w : Width) (a b : ℤ) (m n : ℕ) → natAbs a ≤ m → natAbs b ≤ n → m * n < 2 ^ hbits w → SFits w (a *ℤ b)
-product-fits w a b m n h k l = fits-abs w (a *ℤ b) (omega (arith, abs-product a b, mul-le-mul h k))
 
 -- what the machine reads back of a call's result, whose range is `c .f .ok`
 pub back : (w : Width) (z : ℤ) → mag z < 2 ^ hbits w → toZ w (ofZ w z) ≡ z

@@ -1,13 +1,13 @@
 -- A signed number as the difference of two naturals, its upper and its lower part, of which one is 0. Each operation's law is an equation of parts that `omega` reads, so a linear fact about ℤ is one `omega` with the laws of the operations in it listed.
-use mathlib.Core.Path.{_≡_, refl, sym, ap, ap₂, subst, _∙_}
+use mathlib.Core.Path.{_≡_, refl, ap}
 use mathlib.Core.Bool.{Bool, true, false, not, cond}
-use Prim.Native.Nat.{ℕ, zero, suc, _+_, _-_, _*_, _/_, _^_, _≤_, _<_}
+use Prim.Native.Nat.{ℕ, zero, suc, _+_, _-_, _*_, _^_, _≤_, _<_}
 use native.Mathlib.Nat.{div-mul-le-self, lt-div-mul-add}
 use native.Mathlib.Omega.{arith}
-use lib.Dec.{T, ltb, leb, ltb→lt, nltb→le, le→leb, lt→ltb, leb→le}
+use lib.Dec.{T, ltb, ltb→lt, nltb→le, le→leb, leb→le}
 use lib.IntN.{ℤ, pos, negsuc, negℤ, natAbs, subℕ, _+ℤ_, _-ℤ_, _*ℤ_}
-use lib.Signed.{_≤ℤ_, _<ℤ_, leZ-yes, ltZ-yes, leZ, ltZ, shrZ, mag}
-use mir.Syntax.{Width, w64}
+use lib.Signed.{_≤ℤ_, _<ℤ_, leZ-yes, shrZ}
+use mir.Syntax.{Width}
 use mir.Val.{SFits, hbits}
 
 abbrev pub up : ℤ → ℕ

@@ -1,5 +1,5 @@
 -- What is known of `nearest`, and all that anything else cites of it: a change of its rule is a change of this file.
-use mathlib.Core.Path.{_≡_, sym, ap, _∙_}
+use mathlib.Core.Path.{_≡_, ap, _∙_}
 use Prim.Native.Nat.{ℕ, _+_, _*_, _≤_, _<_}
 use native.Mathlib.Nat.{mul-le-mul-left, lt-of-mul-lt-mul-left}
 use native.Mathlib.Omega.{arith}
@@ -7,7 +7,7 @@ use mathlib.Core.List.{[], _∷_}
 use lib.IntN.{ℤ, pos, natAbs, _+ℤ_, _-ℤ_, _*ℤ_, -ℤ-+ℤ-cancel}
 use lib.Signed.{shrZ}
 use Rattle.whole.specs.Nearest.{nearest}
-use Rattle.whole.proofs.Parts.{up, dn, same, sum, difference, product, abs-twice, abs-sum, abs-product, floored, Floor}
+use Rattle.whole.proofs.Parts.{same, sum, difference, product, abs-twice, abs-sum, abs-product, floored}
 use Rattle.whole.proofs.Ring.{equal, !, _⊕_, _⊖_, _⊗_}
 use Rattle.whole.proofs.Floor.{halved}
 

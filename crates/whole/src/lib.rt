@@ -1,12 +1,12 @@
 // Whole numbers: the one rounding, and the laws of signed sums that everything above cites.
 ghost use mathlib.Core.Path.{_≡_};
-ghost use Prim.Native.Nat.{_+_, _*_, _^_, _<_};
+ghost use Prim.Native.Nat.{_+_, _*_, _^_, _≤_, _<_};
 ghost use lib.IntN.{natAbs, _+ℤ_, _*ℤ_};
 ghost use Rattle.whole.specs.Nearest.{nearest};
 
 // The whole number nearest x / 2^30.
 pub fn nearest_30(x: i64) -> i64
-    requires { ⌜ natAbs x < 2 ^ 62 ⌝ }
+    requires { ⌜ natAbs x ≤ 2 ^ 62 ⌝ }
     ensures { λ r. ⌜ r ≡ nearest x (2 ^ 30) ⌝ }
 {
     (x + 536870912) >> 30

@@ -1,63 +1,24 @@
--- Each field is its digit's.
+-- A number that passes its test has its multipliers.
 use borrow.Author.Needs.{needs}
-use mathlib.Core.Path.{_≡_, refl, sym, _∙_}
-use Prim.Native.Nat.{_/_, _%_}
-use native.Mathlib.Omega.{arith}
-use mir.Syntax.{w32}
-use mir.Facts.{toZ-pos}
-use Rattle.whole.proofs.Machine.{back}
-use Rattle.doodson.specs.Doodson.{multipliersIn, readDoodson}
+use mathlib.Core.Path.{refl, sym, ap, _∙_}
+use Rattle.choices.specs.Numbers.Told.{accepted}
+use Rattle.doodson.specs.Doodson.{readDoodson}
 use Rattle.doodson.proofs.multipliers_of.Statement.{statement}
 use Rattle.doodson.proofs.multipliers_of.Tie as tie
 
 is-doodson-requires : tie.Need-is-doodson-requires
 is-doodson-requires c κs = search needs
 
-cast-t6 : tie.Need-cast-t6
-cast-t6 c = search needs
-
-multiplier-requires : tie.Need-multiplier-requires
-multiplier-requires c κs = search needs
-
-multiplier-requires-2 : tie.Need-multiplier-requires-2
-multiplier-requires-2 c κs = search needs
-
-multiplier-requires-3 : tie.Need-multiplier-requires-3
-multiplier-requires-3 c κs = search needs
-
-multiplier-requires-4 : tie.Need-multiplier-requires-4
-multiplier-requires-4 c κs = search needs
-
-multiplier-requires-5 : tie.Need-multiplier-requires-5
-multiplier-requires-5 c κs = search needs
+multipliers-in-requires : tie.Need-multipliers-in-requires
+multipliers-in-requires c κs = search needs
 
 returns : tie.Need-returns
-unfolding readDoodson multipliersIn
-returns c =
-    let a = c .before .before .before .before .before in
-    let number = a .before .before .args .number in
-    let m1 = c .before .before .before .before .multiplier in
-    let m2 = c .before .before .before .multiplier2 in
-    let m3 = c .before .before .multiplier3 in
-    let m4 = c .before .multiplier4 in
-    let m5 = c .multiplier5 in
-    rw (sym (a .before .is-doodson .ensures) ∙ a .if1 .taken, toZ-pos w32 {n = number / 100000 % 10} (omega arith), back w32 (m1 .result) (m1 .ok) ∙ m1 .ensures, back w32 (m2 .result) (m2 .ok) ∙ m2 .ensures, back w32 (m3 .result) (m3 .ok) ∙ m3 .ensures, back w32 (m4 .result) (m4 .ok) ∙ m4 .ensures, back w32 (m5 .result) (m5 .ok) ∙ m5 .ensures)
-    refl
+unfolding readDoodson
+returns c = rw (sym (c .before .before .is-doodson .ensures) ∙ c .before .if1 .taken) (ap accepted (c .multipliers-in .ensures))
 
 returns-2 : tie.Need-returns-2
 unfolding readDoodson
 returns-2 c = rw (sym (c .before .is-doodson .ensures) ∙ c .if1 .left) refl
 
 pub multipliers-of-spec : {M : Type 1} → statement M
-multipliers-of-spec =
-    tie.close
-    (tie.spec
-    is-doodson-requires
-    cast-t6
-    multiplier-requires
-    multiplier-requires-2
-    multiplier-requires-3
-    multiplier-requires-4
-    multiplier-requires-5
-    returns
-    returns-2)
+multipliers-of-spec = tie.close (tie.spec is-doodson-requires multipliers-in-requires returns returns-2)

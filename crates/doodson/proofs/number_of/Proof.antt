@@ -9,7 +9,7 @@ use mir.Facts.{toZ-ofZ}
 use Rattle.whole.proofs.Machine.{positive}
 use Rattle.arguments.specs.declared.Multipliers.{Multipliers}
 use Rattle.choices.specs.Numbers.Told.{accepted}
-use Rattle.doodson.specs.Doodson.{other, writable, numberOf, writeDoodson}
+use Rattle.doodson.specs.Doodson.{writable, numberOf, writeDoodson}
 use Rattle.doodson.proofs.Digits.{Held, Writable, writable-each, first-parts, first-small}
 use Rattle.doodson.proofs.number_of.Statement.{statement}
 use Rattle.doodson.proofs.number_of.Tie as tie

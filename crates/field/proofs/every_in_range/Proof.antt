@@ -1,7 +1,7 @@
 -- The loop keeps that the whole list is in range where the entries not yet passed are.
 use borrow.Author.Needs.{needs}
 use mathlib.Core.Path.{_≡_, sym, _∙_}
-use Prim.Native.Nat.{ℕ, _≤_, _-_}
+use Prim.Native.Nat.{_≤_, _-_}
 use lib.ListN.{length, drop}
 use Rattle.field.specs.Field.{everyInRange}
 use Rattle.field.proofs.Entries.{every-next, every-stop, every-end}

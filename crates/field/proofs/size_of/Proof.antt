@@ -1,6 +1,5 @@
 -- A degree of at most 60 keeps the product small.
 use borrow.Author.Needs.{needs}
-use Prim.Native.Nat.{_+_, _≤_}
 use native.Mathlib.Nat.{mul-le-mul}
 use native.Mathlib.Omega.{arith}
 use Rattle.field.specs.Field.{size}

@@ -1,10 +1,10 @@
 -- Below zero, one less than the size is -1 - x, which fits where x does.
-use Prim.Native.Nat.{ℕ, _+_, _^_, _≤_, _<_}
+use Prim.Native.Nat.{_^_, _≤_, _<_}
 use native.Mathlib.Omega.{arith}
 use borrow.Author.Needs.{needs}
 use lib.IntN.{ℤ, pos, negsuc, natAbs, _-ℤ_}
 use mir.Syntax.{w64}
-use mir.Val.{SFits, Fits}
+use mir.Val.{SFits}
 use mir.Facts.{toZ-ofZ}
 use Rattle.whole.proofs.Parts.{up, dn, dn-le, difference, abs, fits-abs}
 use Rattle.whole.proofs.Machine.{lt-yes, lt-no, positive}

@@ -1,17 +1,13 @@
 -- Three entries, each there, in range and not corrected before.
 use borrow.Author.Needs.{needs}
-use mathlib.Core.Path.{_≡_, refl, ap, _∙_}
+use mathlib.Core.Path.{_≡_, ap, _∙_}
 use mathlib.Core.List.{List}
-use Prim.Native.Nat.{ℕ, _^_, _≤_, _<_}
+use Prim.Native.Nat.{ℕ, _≤_}
 use native.Mathlib.Omega.{arith}
-use lib.IntN.{ℤ, natAbs}
-use mir.Syntax.{w64}
-use mir.Val.{toZ, ofZ}
-use mir.Facts.{toZ-ofZ}
+use lib.IntN.{ℤ}
 use Rattle.field.specs.Field.{place}
 use Rattle.field.specs.Outcome.{corrected}
-use Rattle.field.proofs.Entries.{Open, open-entry, open-after, corrected-length}
-use Rattle.whole.proofs.Parts.{fits-abs}
+use Rattle.field.proofs.Entries.{Open, open-entry, open-after}
 use Rattle.step_two.specs.StepTwo.{addedC}
 use Rattle.step_two.proofs.Bands.{same-count}
 use Rattle.step_two.proofs.add_c.Statement.{statement}

@@ -1,5 +1,5 @@
 -- Half of an even divisor is added, and the shift is the floor.
-use mathlib.Core.Path.{_≡_, refl, sym}
+use mathlib.Core.Path.{sym}
 use native.Mathlib.Omega.{arith}
 use lib.IntN.{pos, _+ℤ_}
 use lib.Signed.{mag-shr}

@@ -1,6 +1,6 @@
 -- Half of an even divisor is added, and 2^40 divisors more, which make the sum positive and come off its quotient again.
 use mathlib.Core.Path.{_≡_, sym, ap, _∙_}
-use Prim.Native.Nat.{ℕ, _+_, _/_, _^_, _≤_, _<_}
+use Prim.Native.Nat.{ℕ, _+_, _/_, _^_, _≤_}
 use native.Mathlib.Omega.{arith}
 use lib.IntN.{ℤ, pos, natAbs, _+ℤ_, _-ℤ_, +ℤ-assoc, +ℤ-negℤ-cancel}
 use lib.Signed.{shrZ}
@@ -9,7 +9,7 @@ use mir.Val.{SFits}
 use mir.Facts.{toZ-ofZ, toZ-pos}
 use Rattle.whole.specs.Nearest.{nearest}
 use Rattle.whole.proofs.Parts.{up, dn, sum, abs, fits-abs, abs-sum}
-use Rattle.whole.proofs.Machine.{sum-fits, difference-fits, positive}
+use Rattle.whole.proofs.Machine.{difference-fits, positive}
 use Rattle.whole.proofs.Floor.{shifted, floor-pos}
 use Rattle.whole.proofs.Rounding.{nearest-even}
 use Rattle.whole.proofs.nearest_million.Statement.{statement}
