@@ -446,6 +446,17 @@ def hardest_phase():
     return max((rng.getrandbits(32) for _ in range(20_000)), key=error)
 
 
+def waves(book):
+    """Sine and cosine in their units: 16 tides of 4 times a line's wave, at 2^24 counts each, add to S and C of one place."""
+    data = write_sheet([(1, 0, 0, 0, 0, 0)], [[4_000_000]] * 16, [(2, 2, [(1 << 24, 0, 0, 1 << 24)] * 16)])
+    edges = [((k << 29) + d) & U32 for k in range(8) for d in (-2, -1, 0, 1, 2)]
+    for phase in edges + [rng.getrandbits(32) for _ in range(200)]:
+        call = ocean_call(data, (phase, 0, 0, 0, 0, 0), t.FIGURE)
+        number, C, S = call[2](4, [0] * 15, [0] * 15)
+        assert (number, C[5], S[5]) == (0, t.cosine(phase), t.sine(phase))
+        book.field(4, [0] * 15, [0] * 15, call)
+
+
 def ocean():
     book = Fields()
     nine = write_sheet([(2, 0, 0, 0, 0, 0)], [[1_000_000]], [(2, 2, [(1000, 0, 0, -500)])])
@@ -472,6 +483,7 @@ def ocean():
     for k, d in product(range(8), (-1, 0, 1)):                                  # the edges of the eighths
         data = write_sheet([(1, 0, 0, 0, 0, 0), (-13, 0, 0, 0, 0, 13)], [[1_000_000, 3_000_000]], [(3, 3, [(1 << 24, 1, -1, -(1 << 24))])])
         book.field(*zeros, ocean_call(data, (((k << 29) + d) & U32, 0, 0, 0, 0, (k << 29) & U32), rng.choice(FRAMES)))
+    waves(book)
     for sizes in ((128, 1, 90), (40, 2, 90), (128, 32, 0), (1, 32, 2), (128, 4, 10), (128, 32, 90)):
         book.field(*any_field(60), ocean_call(write_sheet(*random_sheet(*sizes)), random_phases(), t.FIGURE))
     phase = hardest_phase()

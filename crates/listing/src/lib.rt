@@ -46,7 +46,7 @@ fn put_decimal(out: &mut [u8], at: usize, n: u64) -> usize
 }
 
 // The size of a count, of -2^63 too: -1 - z fits where -z does not.
-fn size(z: i64) -> u64
+pub fn size(z: i64) -> u64
     ensures { λ r. ⌜ r ≡ natAbs z ⌝ }
 {
     if z < 0 { (-1 - z) as u64 + 1 } else { z as u64 }

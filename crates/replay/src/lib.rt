@@ -188,18 +188,13 @@ pub fn write_number(n: u64) {
     io::print_decimal(STDOUT_FILENO, n);
 }
 
-// The size of a number. One is taken off a negative one first, so that -2^63 has its size too.
-fn size_of(x: i64) -> u64 {
-    if x < 0 { (-1 - x) as u64 + 1 } else { x as u64 }
-}
-
 // A space and a number.
 pub fn write_next(x: i64) {
     io::write_all(STDOUT_FILENO, &[b' ']);
     if x < 0 {
         io::write_all(STDOUT_FILENO, &[b'-']);
     }
-    io::print_decimal(STDOUT_FILENO, size_of(x));
+    io::print_decimal(STDOUT_FILENO, listing::size(x));
 }
 
 // A space and an index.

@@ -1,4 +1,5 @@
 -- The count is at most the list's length, which no call changes.
+use native.Mathlib.Omega.{arith}
 use lib.ListN.{length-take}
 use borrow.Author.Needs.{needs}
 use Rattle.replay.proofs.read_list.Statement.{statement}

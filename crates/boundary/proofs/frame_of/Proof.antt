@@ -1,0 +1,21 @@
+-- The number is 0, 1, or past both cases.
+use mathlib.Core.Path.{refl, sym}
+use native.Mathlib.Omega.{arith}
+use Rattle.boundary.specs.Choices.{chosen}
+use Rattle.boundary.proofs.Choices.{no-case, past}
+use Rattle.boundary.proofs.frame_of.Statement.{statement}
+use Rattle.boundary.proofs.frame_of.Tie as tie
+
+returns : tie.Need-returns
+unfolding chosen
+returns c = rw (c .match .keys1) refl
+
+returns-2 : tie.Need-returns-2
+unfolding chosen
+returns-2 c = rw (c .match .keys2) refl
+
+returns-3 : tie.Need-returns-3
+returns-3 c = sym (no-case _ (c .before .args .number) (past 1 _ (past 0 _ (omega arith) (c .match .rest .0 .1)) (c .match .rest .1)))
+
+pub frame-of-spec : {M : Type 1} → statement M
+frame-of-spec = tie.close (tie.spec returns returns-2 returns-3)

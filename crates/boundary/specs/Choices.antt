@@ -1,0 +1,68 @@
+-- What crosses from C as numbers: the closed choices, phases and bodies.
+use mathlib.Core.List.{List, [], _∷_}
+use Prim.Native.Nat.{ℕ, zero, suc}
+use Rattle.arguments.specs.declared.Phases.{Phases}
+use Rattle.bodies.specs.declared.Body.{Body}
+use Rattle.bodies.specs.declared.Place.{Place}
+use Rattle.bodies.specs.declared.Place.the-variants.{Rectangular, Directional}
+use Rattle.choices.specs.declared.Frame.{Frame}
+use Rattle.choices.specs.declared.Frame.the-variants.{CentreOfFigure, CentreOfMass}
+use Rattle.choices.specs.declared.LoveModel.{LoveModel}
+use Rattle.choices.specs.declared.LoveModel.the-variants.{Elastic, Anelastic}
+use Rattle.choices.specs.declared.PermanentSystem.{PermanentSystem}
+use Rattle.choices.specs.declared.PermanentSystem.the-variants.{TideFree, Zero, Mean}
+use Rattle.choices.specs.Numbers.{Told}
+use Rattle.choices.specs.Numbers.Told.{accepted, refused}
+use Rattle.boundary.specs.declared.BodyChoice.{BodyChoice}
+use Rattle.boundary.specs.declared.BodyChoice.the-variants as body
+use Rattle.boundary.specs.declared.FrameChoice.{FrameChoice}
+use Rattle.boundary.specs.declared.FrameChoice.the-variants as frame
+use Rattle.boundary.specs.declared.GivenBody.{GivenBody}
+use Rattle.boundary.specs.declared.GivenPhases.{GivenPhases}
+use Rattle.boundary.specs.declared.ModelChoice.{ModelChoice}
+use Rattle.boundary.specs.declared.ModelChoice.the-variants as model
+use Rattle.boundary.specs.declared.SystemChoice.{SystemChoice}
+use Rattle.boundary.specs.declared.SystemChoice.the-variants as system
+
+-- a choice crosses as its place among the cases, from 0 on; a number that names no case is answered by 100
+unfoldable pub chosen : {A : Type 0} → List A → ℕ → Told A
+chosen [] number = refused 100
+chosen (case ∷ cases) zero = accepted case
+chosen (case ∷ cases) (suc number) = chosen cases number
+
+abbrev pub loveModel : ℕ → Told LoveModel
+loveModel number = chosen (Elastic ∷ Anelastic ∷ []) number
+
+abbrev pub frameOf : ℕ → Told Frame
+frameOf number = chosen (CentreOfFigure ∷ CentreOfMass ∷ []) number
+
+abbrev pub permanentSystem : ℕ → Told PermanentSystem
+permanentSystem number = chosen (TideFree ∷ Zero ∷ Mean ∷ []) number
+
+-- the phases, each for its argument
+abbrev pub phases : GivenPhases → Phases
+phases b = record { tau = b .tau; s = b .s; h = b .h; p = b .p; np = b .np; ps = b .ps }
+
+-- a body's place, of either kind, has three numbers and the distance
+abbrev pub bodyAt : GivenBody → Place → Body
+bodyAt b place = record { ratio = b .ratio; place = place }
+
+abbrev pub bodyOf : GivenBody → Told Body
+bodyOf b = chosen (bodyAt b (Rectangular (b .x) (b .y) (b .z) (b .r)) ∷ bodyAt b (Directional (b .x) (b .y) (b .z) (b .r)) ∷ []) (b .kind)
+
+-- the case or the number of each answer
+abbrev pub tellsModel : ModelChoice → Told LoveModel
+tellsModel (model.Named love) = accepted love
+tellsModel model.NoSuch = refused 100
+
+abbrev pub tellsFrame : FrameChoice → Told Frame
+tellsFrame (frame.Named f) = accepted f
+tellsFrame frame.NoSuch = refused 100
+
+abbrev pub tellsSystem : SystemChoice → Told PermanentSystem
+tellsSystem (system.Named s) = accepted s
+tellsSystem system.NoSuch = refused 100
+
+abbrev pub tellsBody : BodyChoice → Told Body
+tellsBody (body.Named b) = accepted b
+tellsBody body.NoSuch = refused 100

@@ -1,0 +1,284 @@
+/* Fuzz: fuzz COUNT calls the archive on COUNT inputs of a fixed seed, and holds each answer, entry and guard to model.h. */
+#define _DEFAULT_SOURCE
+#include <inttypes.h>
+#include <stdio.h>
+#include <stdlib.h>
+#include <sys/mman.h>
+#include "lent.h"
+#include "model.h"
+
+enum { STEP_ONE, STEP_TWO, OCEAN_TIDE, MOVE_C20, MULTIPLIERS_OF, NUMBER_OF, FIND_LINE, CALLS };
+static const char *names[CALLS] = {"step_one", "step_two", "ocean_tide", "move_c20", "multipliers_of", "number_of", "find_line"};
+static long answered[CALLS][101], differences;
+
+/* xorshift64*, the seed fixed */
+static uint64_t state = UINT64_C(0x9e3779b97f4a7c15);
+
+static uint64_t any(void)
+{
+    state ^= state >> 12; state ^= state << 25; state ^= state >> 27;
+    return state * UINT64_C(2685821657736338717);
+}
+
+static uint64_t below(uint64_t n) { return (any() >> 11) % n; }
+static int one_in(uint64_t n) { return below(n) == 0; }
+static int64_t within(int64_t size) { return (int64_t)below(2 * (uint64_t)size + 1) - size; }
+static double unit(void) { return (double)(any() >> 11) * 0x1p-53; }
+
+static int64_t entry(void)
+{
+    switch (below(8)) {
+    case 0: return 0;
+    case 1: return LIMIT;
+    case 2: return -LIMIT;
+    case 3: return within(LIMIT);
+    default: return within(INT64_C(1) << (1 + below(60)));
+    }
+}
+
+static int64_t bad_entry(void)
+{
+    static const int64_t bad[] = {LIMIT + 1, -LIMIT - 1, INT64_MAX, INT64_MIN, 2 * LIMIT};
+    return bad[below(5)];
+}
+
+static uint32_t choice(uint32_t cases)
+{
+    static const uint32_t bad[] = {3, 4, 255, 256, 0x10000, 0x80000000, 0x80000001, 0xffffffff};
+    return one_in(40) ? one_in(2) ? cases : bad[below(8)] : (uint32_t)below(cases);
+}
+
+/* degree and lists: one in eight with a fault */
+static uint32_t field(lent *c, lent *s)
+{
+    uint32_t n = one_in(50) ? 4 + (uint32_t)below(57) : 4 + (uint32_t)below(10);
+    size_t size = model_size(n), c_length = size, s_length = size;
+    switch (below(64)) {
+    case 0: c_length--; break;
+    case 1: s_length--; break;
+    case 2: c_length++; break;
+    case 3: s_length++; break;
+    case 4: n = one_in(2) ? 3 : 61; break;
+    case 5: n = (uint32_t)any(); break;
+    case 6: c_length = below(LONGEST); s_length = below(LONGEST); break;
+    case 7: c_length = s_length = 0; break;
+    }
+    lend(c, c_length); lend(s, s_length);
+    for (size_t i = 0; i < c_length; i++) entries(c)[i] = entry();
+    for (size_t i = 0; i < s_length; i++) entries(s)[i] = entry();
+    if (one_in(16) && c_length && s_length) {
+        if (one_in(2)) entries(c)[one_in(3) ? c_length - 1 : below(c_length)] = bad_entry();
+        else entries(s)[one_in(3) ? s_length - 1 : below(s_length)] = bad_entry();
+    }
+    return n;
+}
+
+static uint32_t phase(void) { return one_in(4) ? (uint32_t)below(16) << 28 : (uint32_t)any() - (one_in(8) ? 1 : 0); }
+
+static surfgimlet_phases phases(void)
+{
+    surfgimlet_phases b;
+    b.tau = phase(); b.s = phase(); b.h = phase(); b.p = phase(); b.np = phase(); b.ps = phase();
+    return b;
+}
+
+static double odd_double(void)
+{
+    uint64_t bits = any();
+    double x;
+    static const double edges[] = {0.0, -0.0, 1.0, -1.0, 1e8, 1e12, 1e6, 5e-324, 1e308, -1e308};
+    if (one_in(2)) return edges[below(10)];
+    if (one_in(4)) bits |= UINT64_C(0x7ff) << 52; /* an infinity or not a number */
+    memcpy(&x, &bits, sizeof x);
+    return x;
+}
+
+static surfgimlet_body body(double far, double ratio)
+{
+    surfgimlet_body b;
+    double size;
+    do {
+        b.x = 2 * unit() - 1; b.y = 2 * unit() - 1; b.z = 2 * unit() - 1;
+        size = sqrt(b.x * b.x + b.y * b.y + b.z * b.z);
+    } while (size < 0.1 || size > 1);
+    if (one_in(8)) { b.x = one_in(2) ? 1 : -1; b.y = b.z = 0; size = 1; }
+    if (one_in(8)) { b.z = one_in(2) ? 1 : -1; b.x = b.y = 0; size = 1; }
+    b.kind = (uint32_t)below(2);
+    b.ratio = one_in(8) ? ratio * pow(10, 12 * unit() - 6) : ratio * (0.5 + unit());
+    b.r = one_in(4) ? pow(10, 8 + 4 * unit()) : far * (0.8 + 0.4 * unit());
+    if (one_in(40)) b.r = one_in(2) ? 1e8 : 1e12;
+    if (one_in(40)) b.r = one_in(2) ? nextafter(1e8, 0) : nextafter(1e12, 2e12);
+    if (one_in(40)) b.ratio = one_in(2) ? 1e6 : nextafter(1e6, 2e6);
+    if (one_in(40)) b.ratio = one_in(2) ? 0 : -ratio;
+    if (one_in(40)) size *= 1 + (unit() - 0.5) * 0x1p-38;
+    b.x /= size; b.y /= size; b.z /= size;
+    if (b.kind == 0) { b.x *= b.r; b.y *= b.r; b.z *= b.r; }
+    if (one_in(20)) { double *f[5] = {&b.ratio, &b.x, &b.y, &b.z, &b.r}; *f[below(5)] = odd_double(); }
+    if (one_in(60)) b.kind = choice(2);
+    return b;
+}
+
+static uint8_t *put16(uint8_t *at, uint64_t x) { at[0] = (uint8_t)x; at[1] = (uint8_t)(x >> 8); return at + 2; }
+static uint8_t *put32(uint8_t *at, int64_t x) { put16(at, (uint64_t)x & 0xffff); put16(at + 2, (uint64_t)x >> 16 & 0xffff); return at + 4; }
+
+/* a sheet that is right, then one in three damaged: a byte, a count, a word, a place, its length */
+static size_t sheet(uint8_t *out)
+{
+    uint8_t *at = out;
+    uint64_t lines = 1 + below(6), tides = 1 + below(3), places = below(7), top = one_in(3) ? 12 : 4, n = 1, m = 0;
+    size_t length;
+    if (one_in(500)) { lines = 1 + below(128); tides = 1 + below(32); }
+    if (one_in(100)) { lines = 128; tides = 1; }
+    if (one_in(100)) { places = 90; top = 12; tides = 1; }
+    if (one_in(5000)) { lines = 128; tides = 32; places = 90; top = 12; }
+    at = put16(at, lines);
+    for (uint64_t i = 0; i < 6 * lines; i++) *at++ = (uint8_t)within(one_in(4) ? 13 : 3);
+    at = put16(at, tides);
+    for (uint64_t k = 0; k < tides; k++) {
+        int64_t left = 4000000;
+        for (uint64_t f = 0; f < lines; f++) {
+            int64_t a = f + 1 == lines && one_in(2) ? left : (int64_t)below((uint64_t)left / (one_in(2) ? 1 : lines) + 1);
+            left -= a;
+            at = put32(at, one_in(2) ? a : -a);
+        }
+    }
+    uint8_t *count = at;
+    uint64_t put = 0;
+    at += 2;
+    for (; n <= top && put < places; m < n ? m++ : (n++, m = 0)) {
+        if (places < 90 && !one_in(top == 12 ? 12 : 3)) continue;
+        *at++ = (uint8_t)n; *at++ = (uint8_t)m; put++;
+        for (uint64_t q = 0; q < 4 * tides; q++) {
+            int64_t edge = one_in(2) ? 1 << 24 : -(1 << 24);
+            at = put32(at, (q & 1) && m == 0 ? 0 : one_in(8) ? edge : within(one_in(2) ? 1 << 24 : 1000));
+        }
+    }
+    put16(count, put);
+    length = (size_t)(at - out);
+    switch (below(24)) {
+    case 0: out[below(length)] = (uint8_t)any(); break;
+    case 1: out[below(length)] ^= (uint8_t)(1 << below(8)); break;
+    case 2: put16(one_in(2) ? out : count, one_in(2) ? below(200) : any()); break;
+    case 3: length -= one_in(2) ? 1 : below(length); break;
+    case 4: out[length++] = 0; break;
+    case 5: out[2 + below(6 * lines)] = one_in(2) ? 14 : (uint8_t)-14; break;
+    case 6: { uint8_t *w = out + 4 + 6 * lines + 4 * below(lines * tides); put32(w, one_in(2) ? 4000001 : model_word(w) + 1); } break;
+    case 7: if (put) put32(count + 4 + 4 * below(4 * tides), one_in(2) ? (1 << 24) + 1 : -(1 << 24) - 1); break;
+    case 8: if (put) count[2 + (2 + 16 * tides) * below(put)] = (uint8_t)below(15); break;
+    case 9: if (put) count[3 + (2 + 16 * tides) * below(put)] = (uint8_t)below(15); break;
+    }
+    if (one_in(100)) { length = below(64); for (size_t i = 0; i < length; i++) out[i] = (uint8_t)any(); }
+    return length;
+}
+
+/* the sheet ends at a page that may not be touched: a read past its end stops the run */
+static const uint8_t *at_the_edge(const uint8_t *bytes, size_t length)
+{
+    static uint8_t *edge;
+    const size_t page = 65536;
+    if (!edge) {
+        uint8_t *room = mmap(NULL, 3 * page, PROT_READ | PROT_WRITE, MAP_PRIVATE | MAP_ANONYMOUS, -1, 0);
+        if (room == MAP_FAILED || mprotect(room + 2 * page, page, PROT_NONE)) { puts("fuzz: no memory"); exit(1); }
+        edge = room + 2 * page;
+    }
+    return memcpy(edge - length, bytes, length);
+}
+
+static void expect(int call, uint32_t answer, uint32_t told, int as_told)
+{
+    answered[call][told]++;
+    if (answer == told && as_told) return;
+    if (differences++ < 20)
+        printf("%s: answered %" PRIu32 ", the model %" PRIu32 "%s\n", names[call], answer, told, as_told ? "" : ", and an entry or a guard differs");
+}
+
+static void over_field(int call)
+{
+    static lent c, s, c2, s2;
+    static uint8_t bytes[70000], kept[70000];
+    uint32_t n = field(&c, &s), answer, told;
+    memcpy(&c2, &c, sizeof c); memcpy(&s2, &s, sizeof s);
+    if (call == OCEAN_TIDE) {
+        size_t length = sheet(bytes);
+        const uint8_t *b = at_the_edge(bytes, length);
+        surfgimlet_phases f = phases();
+        uint32_t frame = choice(2);
+        memcpy(kept, bytes, length);
+        answer = surfgimlet_ocean_tide(n, entries(&c), c.length, entries(&s), s.length, b, length, f, frame);
+        told = model_ocean_tide(n, entries(&c2), c2.length, entries(&s2), s2.length, kept, length, f, frame);
+        if (memcmp(b, kept, length)) { differences++; puts("ocean_tide: the sheet is changed"); }
+    } else if (call == STEP_ONE) {
+        surfgimlet_body moon = body(3.8e8, 0.0123), sun = body(1.5e11, 332946);
+        uint32_t love = choice(2);
+        answer = surfgimlet_step_one(n, entries(&c), c.length, entries(&s), s.length, moon, sun, love);
+        told = model_step_one(n, entries(&c2), c2.length, entries(&s2), s2.length, moon, sun, love);
+    } else {
+        surfgimlet_phases f = phases();
+        uint32_t love = choice(2);
+        answer = surfgimlet_step_two(n, entries(&c), c.length, entries(&s), s.length, f, love);
+        told = model_step_two(n, entries(&c2), c2.length, entries(&s2), s2.length, f, love);
+    }
+    expect(call, answer, told, same(&c, &c2) && same(&s, &s2));
+}
+
+static uint32_t a_number(void)
+{
+    switch (below(4)) {
+    case 0: return model_lines[below(49)].number;
+    case 1: return model_lines[below(49)].number + (uint32_t)within(11);
+    case 2: return (uint32_t)below(1000020);
+    default: return one_in(2) ? (uint32_t)any() : 999998 + (uint32_t)below(4);
+    }
+}
+
+static void alone(int call)
+{
+    results got = fresh(), told = fresh();
+    uint32_t answer, number;
+    if (call == MOVE_C20) {
+        int64_t c20 = one_in(8) ? bad_entry() : entry();
+        uint32_t from = choice(3), to = choice(3), love = choice(2);
+        answer = surfgimlet_move_c20(c20, from, to, love, &got.moved);
+        number = model_move_c20(c20, from, to, love, &told.moved);
+    } else if (call == MULTIPLIERS_OF) {
+        uint32_t given = a_number();
+        answer = surfgimlet_multipliers_of(given, got.multipliers);
+        number = model_multipliers_of(given, told.multipliers);
+    } else if (call == NUMBER_OF) {
+        int32_t m[6];
+        m[0] = (int32_t)below(10);
+        for (int i = 1; i < 6; i++) m[i] = (int32_t)below(10) - 5;
+        if (one_in(4)) m[below(6)] = one_in(2) ? (int32_t)within(11) : (int32_t)any();
+        answer = surfgimlet_number_of(m, &got.number);
+        number = model_number_of(m, &told.number);
+    } else {
+        uint32_t given = a_number();
+        answer = surfgimlet_find_line(given, &got.index, &got.first, &got.second);
+        number = model_find_line(given, &told.index, &told.first, &told.second);
+    }
+    expect(call, answer, number, same_results(&got, &told));
+}
+
+int main(int argc, char **argv)
+{
+    static const int numbers[CALLS][12] = {{0, 1, 2, 3, 4, 5, 6, 100, -1}, {0, 1, 2, 100, -1}, {0, 1, 2, 7, 8, 9, 100, -1},
+        {0, 2, 100, -1}, {0, 10, -1}, {0, 10, -1}, {0, 10, 11, -1}};
+    long count = argc > 1 ? atol(argv[1]) : 1000000, missing = 0;
+    for (long i = 0; i < count; i++) {
+        uint64_t pick = below(20);
+        if (pick < 8) over_field(OCEAN_TIDE);
+        else if (pick < 12) over_field(STEP_ONE);
+        else if (pick < 15) over_field(STEP_TWO);
+        else alone(MOVE_C20 + (int)below(4));
+    }
+    for (int call = 0; call < CALLS; call++) {
+        printf("fuzz: %s answered", names[call]);
+        for (const int *k = numbers[call]; *k >= 0; k++) {
+            printf(" %d %ld times,", *k, answered[call][*k]);
+            missing += answered[call][*k] == 0;
+        }
+        puts("");
+    }
+    printf("fuzz: %ld inputs, %ld differences, %ld answers never met\n", count, differences, missing);
+    return differences != 0 || missing != 0;
+}

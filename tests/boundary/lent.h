@@ -1,0 +1,57 @@
+/* Memory to lend, between guard zones: one comparison finds a wrong entry, an entry moved on refusal and a guard touched. */
+#ifndef LENT_H
+#define LENT_H
+
+#include <stdint.h>
+#include <string.h>
+
+#define GUARD 16
+#define LONGEST 1900 /* a field of degree 60 has 1891 entries */
+#define UNTOUCHED INT64_C(0x5a5aa5a5c3c33c3c)
+
+typedef struct {
+    int64_t all[GUARD + LONGEST + GUARD];
+    size_t length;
+} lent;
+
+static int64_t *entries(lent *l) { return l->all + GUARD; }
+
+static void lend(lent *l, size_t length)
+{
+    l->length = length;
+    for (size_t i = 0; i < GUARD; i++) l->all[i] = l->all[GUARD + length + i] = UNTOUCHED;
+}
+
+static int same(const lent *a, const lent *b)
+{
+    return a->length == b->length && memcmp(a->all, b->all, (GUARD + a->length + GUARD) * sizeof a->all[0]) == 0;
+}
+
+/* Results of a call without a field, each alone between guards; what they hold before is theirs to keep on refusal. */
+typedef struct {
+    uint64_t g0;
+    int64_t moved;
+    uint64_t g1;
+    int32_t multipliers[6];
+    uint64_t g2;
+    uint32_t number;
+    uint32_t g3;
+    uint64_t g4;
+    size_t index;
+    uint64_t g5;
+    int64_t first;
+    uint64_t g6;
+    int64_t second;
+    uint64_t g7;
+} results;
+
+static results fresh(void)
+{
+    results r;
+    memset(&r, 0x5a, sizeof r);
+    return r;
+}
+
+static int same_results(const results *a, const results *b) { return memcmp(a, b, sizeof *a) == 0; }
+
+#endif

@@ -1,0 +1,34 @@
+# Sourced from the repository's root: the compilers of x86-64 programs as CC, CXX and FC, what runs such a program as RUN,
+# and whether that is an emulator as EMULATED. Missing packages are installed where this is root.
+if [ "$(uname -m)" = x86_64 ]; then
+    CC=gcc CXX=g++ FC=gfortran RUN= EMULATED=no
+    packages="gcc g++ gfortran libc6-dev python3 binutils"
+    tools="gcc g++ gfortran python3 nm"
+    library=
+else
+    CC=x86_64-linux-gnu-gcc CXX=x86_64-linux-gnu-g++ FC=x86_64-linux-gnu-gfortran RUN=qemu-x86_64 EMULATED=yes
+    packages="gcc-x86-64-linux-gnu g++-x86-64-linux-gnu gfortran-x86-64-linux-gnu libc6-dev-amd64-cross qemu-user python3 binutils"
+    tools="$CC $CXX $FC qemu-x86_64 python3 nm"
+    library=/usr/x86_64-linux-gnu/include/stdio.h
+fi
+
+missing() {
+    for tool in $tools; do command -v "$tool" >/dev/null || { echo "$tool"; return; }; done
+    [ -z "$library" ] || [ -e "$library" ] || echo "$library"
+}
+
+if [ -n "$(missing)" ] && [ "$(id -u)" = 0 ] && command -v apt-get >/dev/null; then
+    apt-get -qq update >/dev/null 2>&1 || true
+    DEBIAN_FRONTEND=noninteractive apt-get -qq install -y --no-install-recommends $packages >/dev/null 2>&1 || true
+fi
+[ -z "$(missing)" ] || { echo "missing: $(missing) (Debian's packages: $packages)"; exit 1; }
+command -v rt >/dev/null || { echo "missing: rt (the Rattle toolchain)"; exit 1; }
+
+ARCHIVE=target/staticlib/libboundary.a
+BUILD=target/boundary
+
+# prove and write the archive of a crate, or say why not
+archive() {
+    mkdir -p target
+    rt staticlib "$1" >"target/staticlib-$1.log" 2>&1 || { tail -n 20 "target/staticlib-$1.log"; exit 1; }
+}

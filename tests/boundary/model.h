@@ -1,0 +1,357 @@
+/* The unit's calls in plain C, written from the description alone: what the fuzz run and the bench hold the archive to.
+ * Whole numbers throughout, doubles only in step one, each operation rounded once (compile with -ffp-contract=off). */
+#ifndef MODEL_H
+#define MODEL_H
+
+#include <math.h>
+#include <string.h>
+#include "surfgimlet.h"
+
+#define LIMIT (INT64_C(1) << 60)
+
+/* floor(x/n + 1/2) */
+static int64_t model_nearest(int64_t x, int64_t n)
+{
+    int64_t q = x / n, r = x % n;
+    if (r < 0) { r += n; q -= 1; }
+    return q + (2 * r >= n);
+}
+
+/* ---- the field */
+
+static size_t model_size(uint32_t n) { return (size_t)(n + 1) * (n + 2) / 2; }
+static size_t model_place(size_t n, size_t m) { return n * (n + 1) / 2 + m; }
+
+static int model_in_range(const int64_t *l, size_t length)
+{
+    for (size_t i = 0; i < length; i++)
+        if (l[i] < -LIMIT || l[i] > LIMIT) return 0;
+    return 1;
+}
+
+static uint32_t model_field(uint32_t n, const int64_t *c, size_t c_length, const int64_t *s, size_t s_length)
+{
+    if (n < 4 || n > 60 || c_length != model_size(n) || s_length != model_size(n)) return 1;
+    return model_in_range(c, c_length) && model_in_range(s, s_length) ? 0 : 2;
+}
+
+/* ---- Doodson numbers and the printed lines */
+
+static const struct { uint32_t number; int32_t one, two; } model_lines[49] = {
+    {135645, -1, -1}, {135655, -7, -7}, {137455, -1, -1}, {145545, -12, -13}, {145555, -66, -67}, {153655, 1, 1},
+    {155455, 4, 4}, {155655, 13, 13}, {155665, 2, 3}, {157455, 3, 3}, {162556, -19, -19}, {163545, 5, 5},
+    {163555, -433, -432}, {164556, 20, 20}, {165545, -88, -88}, {165555, 4720, 4710}, {165565, 683, 682},
+    {165575, -16, -16}, {166554, -208, -204}, {167555, -50, -50}, {173655, -5, -5}, {175455, -21, -21},
+    {175465, -4, -4}, {183555, -2, -2}, {185555, -7, -6}, {185565, -4, -4},
+    {55565, 166, -67}, {55575, -1, 1}, {56554, -12, 8}, {57555, -55, 43}, {57565, 1, -1}, {58554, -3, 2},
+    {63655, -3, 7}, {65445, 1, -2}, {65455, -12, 37}, {65465, 1, -2}, {65655, 1, -2}, {73555, 0, 6}, {75355, 0, 3},
+    {75555, 6, 63}, {75565, 2, 26}, {75575, 0, 2}, {83655, 1, 2}, {85455, 4, 11}, {85465, 2, 5}, {93555, 1, 2},
+    {95355, 1, 1}, {245655, -3, -3}, {255555, -12, -12}};
+
+static uint32_t model_multipliers_of(uint32_t number, int32_t m[6])
+{
+    if (number > 999999) return 10;
+    for (int i = 5; i >= 0; i--, number /= 10) m[i] = (int32_t)(number % 10) - (i ? 5 : 0);
+    return 0;
+}
+
+static uint32_t model_number_of(const int32_t m[6], uint32_t *number)
+{
+    uint32_t digits = 0;
+    if (m[0] < 0 || m[0] > 9) return 10;
+    for (int i = 1; i < 6; i++)
+        if (m[i] < -5 || m[i] > 4) return 10;
+    for (int i = 0; i < 6; i++) digits = digits * 10 + (uint32_t)(m[i] + (i ? 5 : 0));
+    *number = digits;
+    return 0;
+}
+
+static uint32_t model_find_line(uint32_t number, size_t *index, int64_t *first, int64_t *second)
+{
+    if (number > 999999) return 10;
+    for (size_t i = 0; i < 49; i++)
+        if (model_lines[i].number == number) {
+            *index = i;
+            *first = model_lines[i].one;
+            *second = model_lines[i].two;
+            return 0;
+        }
+    return 11;
+}
+
+/* ---- phase, sine, cosine */
+
+static uint32_t model_phase(const int32_t m[6], surfgimlet_phases b)
+{
+    return (uint32_t)m[0] * b.tau + (uint32_t)m[1] * b.s + (uint32_t)m[2] * b.h + (uint32_t)m[3] * b.p
+        + (uint32_t)m[4] * b.np + (uint32_t)m[5] * b.ps;
+}
+
+#define STEP(h, d) (h) = (UINT64_C(1) << 32) - (y * (h) + (UINT64_C(d) << 31)) / (UINT64_C(d) << 32)
+
+static int64_t model_sine(uint32_t phase)
+{
+    uint32_t e = phase >> 29, b = phase & 0x1fffffff;
+    uint64_t a = e & 1 ? (UINT64_C(1) << 29) - b : b;
+    uint64_t x = (a * UINT64_C(13493037705) + (UINT64_C(1) << 30)) >> 31;
+    uint64_t y = (x * x + (UINT64_C(1) << 31)) >> 32;
+    uint64_t h = UINT64_C(1) << 32;
+    int64_t value;
+    if ((e & 3) == 1 || (e & 3) == 2) {
+        STEP(h, 132); STEP(h, 90); STEP(h, 56); STEP(h, 30); STEP(h, 12); STEP(h, 2);
+        value = (int64_t)((h + 2) / 4);
+    } else {
+        STEP(h, 110); STEP(h, 72); STEP(h, 42); STEP(h, 20); STEP(h, 6);
+        value = (int64_t)((((x * h + (UINT64_C(1) << 31)) >> 32) + 2) / 4);
+    }
+    return e < 4 ? value : -value;
+}
+
+static int64_t model_cosine(uint32_t phase) { return model_sine(phase + (UINT32_C(1) << 30)); }
+
+/* ---- step two */
+
+static uint32_t model_step_two(uint32_t n, int64_t *c, size_t c_length, int64_t *s, size_t s_length,
+                               surfgimlet_phases b, uint32_t love)
+{
+    int64_t c20 = 0, c21 = 0, s21 = 0, c22 = 0, s22 = 0;
+    uint32_t refusal;
+    if (love > 1) return 100;
+    refusal = model_field(n, c, c_length, s, s_length);
+    if (refusal) return refusal;
+    for (int i = 0; i < 49; i++) {
+        int64_t one = model_lines[i].one * 100, two = model_lines[i].two * 100, sine, cosine;
+        int32_t m[6] = {0};
+        uint32_t phase;
+        if (i >= 26 && i < 47 && love == 0) continue;
+        model_multipliers_of(model_lines[i].number, m);
+        phase = model_phase(m, b);
+        sine = model_sine(phase);
+        cosine = model_cosine(phase);
+        if (i < 26) {
+            c21 += (love ? two : one) * sine;
+            s21 += (love ? two : one) * cosine;
+        } else if (i < 47) {
+            c20 += one * cosine + two * sine;
+        } else {
+            c22 += one * cosine;
+            s22 -= one * sine;
+        }
+    }
+    c[model_place(2, 0)] += model_nearest(c20, INT64_C(1) << 30);
+    c[model_place(2, 1)] += model_nearest(c21, INT64_C(1) << 30);
+    s[model_place(2, 1)] += model_nearest(s21, INT64_C(1) << 30);
+    c[model_place(2, 2)] += model_nearest(c22, INT64_C(1) << 30);
+    s[model_place(2, 2)] += model_nearest(s22, INT64_C(1) << 30);
+    return 0;
+}
+
+/* ---- permanent systems */
+
+static int64_t model_permanent(uint32_t love) { return love ? -4200675 : -4108147; }
+
+static int64_t model_above_tide_free(uint32_t system, uint32_t love)
+{
+    return system == 0 ? 0 : system == 1 ? model_permanent(love) : model_permanent(love) - 13914129;
+}
+
+static uint32_t model_move_c20(int64_t c20, uint32_t from, uint32_t to, uint32_t love, int64_t *moved)
+{
+    if (from > 2 || to > 2 || love > 1) return 100;
+    if (c20 < -LIMIT || c20 > LIMIT) return 2;
+    *moved = c20 - model_above_tide_free(from, love) + model_above_tide_free(to, love);
+    return 0;
+}
+
+/* ---- step one */
+
+typedef struct { double u, v, w; } model_direction;
+
+static uint32_t model_see(surfgimlet_body b, model_direction *d)
+{
+    double excess;
+    if (!isfinite(b.ratio) || !isfinite(b.x) || !isfinite(b.y) || !isfinite(b.z) || !isfinite(b.r)) return 3;
+    if (!(b.r >= 1e8 && b.r <= 1e12 && b.ratio > 0 && b.ratio <= 1e6)) return 4;
+    d->u = b.kind ? b.x : b.x / b.r;
+    d->v = b.kind ? b.y : b.y / b.r;
+    d->w = b.kind ? b.z : b.z / b.r;
+    excess = ((d->u * d->u + d->v * d->v) + d->w * d->w) - 1.0;
+    return excess >= -0x1p-40 && excess <= 0x1p-40 ? 0 : 5;
+}
+
+/* P and Q of the seven orders of degrees 2 and 3, one body's */
+static void model_body(surfgimlet_body b, model_direction d, double p[7], double q[7])
+{
+    static const double root[7] = {2.236067977499789696409, 1.290994448735805628393, 0.645497224367902814196,
+        2.645751311064590590501, 1.080123449734643371827, 0.341565025531986612774, 0.139443337755679257996};
+    double e[4] = {1.0}, f[4] = {0.0};
+    double w = d.w, w2 = w * w, t = 6378136.3 / b.r, t3 = (t * t) * t, t4 = t3 * t;
+    double l[7];
+    l[0] = (3 * w2 - 1) / 2; l[1] = 3 * w; l[2] = 3;
+    l[3] = ((5 * w2 - 3) * w) / 2; l[4] = (15 * w2 - 3) / 2; l[5] = 15 * w; l[6] = 15;
+    for (int m = 1; m < 4; m++) {
+        e[m] = d.u * e[m - 1] - d.v * f[m - 1];
+        f[m] = d.u * f[m - 1] + d.v * e[m - 1];
+    }
+    for (int i = 0; i < 7; i++) {
+        int m = i < 3 ? i : i - 3;
+        double scale = (root[i] * l[i]) * (b.ratio * (i < 3 ? t3 : t4));
+        p[i] = scale * e[m];
+        q[i] = scale * f[m];
+    }
+}
+
+/* floor(x + 1/2) of the exact x; x - floor(x) is exact but for an x just below 0, where it is still above 1/2 */
+static int64_t model_count(double x)
+{
+    double below = floor(x);
+    return (int64_t)below + (x - below >= 0.5);
+}
+
+static uint32_t model_step_one(uint32_t n, int64_t *c, size_t c_length, int64_t *s, size_t s_length,
+                               surfgimlet_body moon, surfgimlet_body sun, uint32_t love)
+{
+    static const double real[2][7] = {{0.29525, 0.29470, 0.29801, 0.093, 0.093, 0.093, 0.094},
+                                      {0.30190, 0.29830, 0.30102, 0.093, 0.093, 0.093, 0.094}};
+    static const double imaginary[2][7] = {{0}, {0, -0.00144, -0.00130}};
+    static const double plus[2][3] = {{-0.00087, -0.00079, -0.00057}, {-0.00089, -0.00080, -0.00057}};
+    double mp[7], mq[7], sp[7], sq[7], dc[10], ds[10];
+    model_direction m, b;
+    uint32_t refusal;
+    if (love > 1 || moon.kind > 1 || sun.kind > 1) return 100;
+    if ((refusal = model_field(n, c, c_length, s, s_length))) return refusal;
+    if ((refusal = model_see(moon, &m))) return refusal;
+    if ((refusal = model_see(sun, &b))) return refusal;
+    model_body(moon, m, mp, mq);
+    model_body(sun, b, sp, sq);
+    for (int i = 0; i < 7; i++) {
+        double p = (mp[i] + sp[i]) / (i < 3 ? 5 : 7), q = (mq[i] + sq[i]) / (i < 3 ? 5 : 7);
+        double k = real[love][i], l = imaginary[love][i];
+        dc[i] = (k * p + l * q) * 1e15;
+        ds[i] = (k * q - l * p) * 1e15;
+        if (i < 3) {
+            dc[7 + i] = (plus[love][i] * p) * 1e15;
+            ds[7 + i] = (plus[love][i] * q) * 1e15;
+        }
+    }
+    for (int i = 0; i < 10; i++)
+        if (!(dc[i] > -0x1p52 && dc[i] < 0x1p52 && ds[i] > -0x1p52 && ds[i] < 0x1p52)) return 6;
+    for (int i = 0; i < 10; i++) {
+        c[3 + i] += model_count(dc[i]);
+        if (i != 0 && i != 3 && i != 7) s[3 + i] += model_count(ds[i]);
+    }
+    c[3] -= model_permanent(love);
+    return 0;
+}
+
+/* ---- model sheet and ocean tide */
+
+typedef struct { size_t lines, tides, places; const uint8_t *line, *row, *place; } model_sheet;
+
+static size_t model_half(const uint8_t *b) { return b[0] + 256u * b[1]; }
+
+static int32_t model_word(const uint8_t *b)
+{
+    uint32_t bits = b[0] | (uint32_t)b[1] << 8 | (uint32_t)b[2] << 16 | (uint32_t)b[3] << 24;
+    return (int32_t)bits;
+}
+
+/* where the sections stand: 7 unless all counts are in their ranges and the length is exact */
+static uint32_t model_layout(const uint8_t *b, size_t length, model_sheet *t)
+{
+    size_t at = 2;
+    if (length < at) return 7;
+    t->lines = model_half(b);
+    if (t->lines < 1 || t->lines > 128) return 7;
+    t->line = b + at;
+    at += 6 * t->lines + 2;
+    if (length < at) return 7;
+    t->tides = model_half(b + at - 2);
+    if (t->tides < 1 || t->tides > 32) return 7;
+    t->row = b + at;
+    at += 4 * t->lines * t->tides + 2;
+    if (length < at) return 7;
+    t->places = model_half(b + at - 2);
+    t->place = b + at;
+    return t->places <= 90 && length == at + t->places * (2 + 16 * t->tides) ? 0 : 7;
+}
+
+/* no early end: a sheet is nearly always right, and without branches the tests go several values at a time */
+static int model_values(const model_sheet *t)
+{
+    size_t wide = 2 + 16 * t->tides;
+    int good = 1, last = -1;
+    for (size_t i = 0; i < 6 * t->lines; i++) good &= (int8_t)t->line[i] >= -13 && (int8_t)t->line[i] <= 13;
+    for (size_t k = 0; k < t->tides; k++) {
+        int64_t total = 0;
+        for (size_t f = 0; f < t->lines; f++) {
+            int64_t a = model_word(t->row + 4 * (k * t->lines + f));
+            total += a < 0 ? -a : a;
+        }
+        good &= total <= 4000000;
+    }
+    for (size_t j = 0; j < t->places; j++) {
+        const uint8_t *p = t->place + j * wide;
+        int here = p[0] * 256 + p[1];
+        int32_t in_s = 0;
+        good &= p[0] >= 1 && p[0] <= 12 && p[1] <= p[0] && here > last;
+        last = here;
+        for (size_t k = 0; k < t->tides; k++) {
+            const uint8_t *q = p + 2 + 16 * k;
+            int32_t cc = model_word(q), sc = model_word(q + 4), cs = model_word(q + 8), ss = model_word(q + 12);
+            good &= (cc >= -(1 << 24)) & (cc <= 1 << 24) & (sc >= -(1 << 24)) & (sc <= 1 << 24)
+                & (cs >= -(1 << 24)) & (cs <= 1 << 24) & (ss >= -(1 << 24)) & (ss <= 1 << 24);
+            in_s |= sc | ss;
+        }
+        good &= (p[1] > 0) | (in_s == 0);
+    }
+    return good;
+}
+
+static uint32_t model_ocean_tide(uint32_t n, int64_t *c, size_t c_length, int64_t *s, size_t s_length,
+                                 const uint8_t *sheet, size_t sheet_length, surfgimlet_phases b, uint32_t frame)
+{
+    model_sheet t;
+    int64_t sine[128], cosine[128], fcos[32], fsin[32];
+    uint32_t refusal;
+    if (frame > 1) return 100;
+    if ((refusal = model_field(n, c, c_length, s, s_length))) return refusal;
+    if ((refusal = model_layout(sheet, sheet_length, &t))) return refusal;
+    if (!model_values(&t)) return 8;
+    for (size_t j = 0; j < t.places; j++)
+        if (t.place[j * (2 + 16 * t.tides)] > n) return 9;
+    for (size_t f = 0; f < t.lines; f++) {
+        int32_t m[6];
+        uint32_t phase;
+        for (int i = 0; i < 6; i++) m[i] = (int8_t)t.line[6 * f + i];
+        phase = model_phase(m, b);
+        sine[f] = model_sine(phase);
+        cosine[f] = model_cosine(phase);
+    }
+    for (size_t k = 0; k < t.tides; k++) {
+        int64_t x = 0, y = 0;
+        for (size_t f = 0; f < t.lines; f++) {
+            int64_t a = model_word(t.row + 4 * (k * t.lines + f));
+            x += a * cosine[f];
+            y += a * sine[f];
+        }
+        fcos[k] = model_nearest(x, 1000000);
+        fsin[k] = model_nearest(y, 1000000);
+    }
+    for (size_t j = 0; j < t.places; j++) {
+        const uint8_t *p = t.place + j * (2 + 16 * t.tides);
+        size_t at = model_place(p[0], p[1]);
+        int64_t x = 0, y = 0;
+        if (frame == 1 && p[0] == 1) continue;
+        for (size_t k = 0; k < t.tides; k++) {
+            const uint8_t *q = p + 2 + 16 * k;
+            x += fcos[k] * model_word(q) + fsin[k] * model_word(q + 8);
+            y += fcos[k] * model_word(q + 4) + fsin[k] * model_word(q + 12);
+        }
+        c[at] += model_nearest(x, INT64_C(1) << 30);
+        s[at] += model_nearest(y, INT64_C(1) << 30);
+    }
+    return 0;
+}
+
+#endif

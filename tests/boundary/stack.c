@@ -1,0 +1,77 @@
+/* The stack that each call takes: run on a stack painted beforehand, and told by how far down the paint is gone. */
+#define _DEFAULT_SOURCE
+#define _XOPEN_SOURCE 700
+#include <stddef.h>
+#include <stdint.h>
+#include <stdio.h>
+#include <string.h>
+#include <ucontext.h>
+#include "surfgimlet.h"
+
+#define ROOM 262144
+#define ALLOWED 65536
+#define PAINT 0xa5
+
+static union { max_align_t aligned; uint8_t bytes[ROOM]; } stack;
+static ucontext_t here, there;
+static int64_t c[1891], s[1891], moved, first, second;
+static int32_t multipliers[6];
+static uint32_t number, answer;
+static size_t place;
+static uint8_t sheet[70000];
+static size_t sheet_length;
+
+/* the longest sheet: 128 lines, 32 tides, 90 places */
+static void fill(void)
+{
+    uint8_t *at = sheet;
+    *at++ = 128; *at++ = 0; at += 6 * 128;
+    *at++ = 32; *at++ = 0; at += 4 * 128 * 32;
+    *at++ = 90; *at++ = 0;
+    for (int n = 1; n <= 12; n++)
+        for (int m = 0; m <= n; m++) { *at++ = (uint8_t)n; *at++ = (uint8_t)m; at += 16 * 32; }
+    sheet_length = (size_t)(at - sheet);
+}
+
+static const surfgimlet_phases b = {1, 2, 3, 4, 5, 6};
+static const surfgimlet_body moon = {SURFGIMLET_DIRECTION, 0.0123, 0.6, 0.0, 0.8, 3.8e8};
+
+static void nothing(void) { answer = 0; }
+static void step_one(void) { answer = surfgimlet_step_one(60, c, 1891, s, 1891, moon, moon, 1); }
+static void step_two(void) { answer = surfgimlet_step_two(60, c, 1891, s, 1891, b, 1); }
+static void ocean_tide(void) { answer = surfgimlet_ocean_tide(60, c, 1891, s, 1891, sheet, sheet_length, b, 0); }
+static void move_c20(void) { answer = surfgimlet_move_c20(0, 0, 2, 1, &moved); }
+static void multipliers_of(void) { answer = surfgimlet_multipliers_of(165555, multipliers); }
+static void number_of(void) { answer = surfgimlet_number_of(multipliers, &number); }
+static void find_line(void) { answer = surfgimlet_find_line(255555, &place, &first, &second); }
+
+static size_t taken(void (*call)(void))
+{
+    size_t clean = 0;
+    memset(stack.bytes, PAINT, ROOM);
+    getcontext(&there);
+    there.uc_stack.ss_sp = stack.bytes;
+    there.uc_stack.ss_size = ROOM;
+    there.uc_link = &here;
+    makecontext(&there, call, 0);
+    swapcontext(&here, &there);
+    while (clean < ROOM && stack.bytes[clean] == PAINT) clean++;
+    return ROOM - clean;
+}
+
+int main(void)
+{
+    static const struct { const char *name; void (*call)(void); } calls[] = {{"step_one", step_one}, {"step_two", step_two},
+        {"ocean_tide", ocean_tide}, {"move_c20", move_c20}, {"multipliers_of", multipliers_of}, {"number_of", number_of}, {"find_line", find_line}};
+    size_t deepest = 0, frame;
+    fill();
+    frame = taken(nothing);
+    for (size_t i = 0; i < sizeof calls / sizeof calls[0]; i++) {
+        size_t bytes = taken(calls[i].call) - frame;
+        printf("stack: %s takes %zu bytes\n", calls[i].name, bytes);
+        if (answer) { printf("stack: %s was refused with %u\n", calls[i].name, (unsigned)answer); return 1; }
+        if (bytes > deepest) deepest = bytes;
+    }
+    printf("stack: the deepest call takes %zu bytes, %d allowed\n", deepest, ALLOWED);
+    return deepest >= ALLOWED;
+}
