@@ -50,6 +50,10 @@ static void make_sheet(int lines, int tides, int places)
 static void unit_ocean(void) { wrong |= surfgimlet_ocean_tide(DEGREE, c, SIZE, s, SIZE, sheet, length, b, 0); }
 static void plain_ocean(void) { wrong |= plain_ocean_tide(DEGREE, c, SIZE, s, SIZE, sheet, length, b, 0); }
 static void doubles_ocean(void) { wrong |= (uint32_t)doubles_ocean_tide(cd, sd, sheet, length, radians); }
+/* degree 11, where the sheet reaches 12: refused with 9 once all of it is tested */
+static void unit_tests(void) { wrong |= surfgimlet_ocean_tide(11, c, 78, s, 78, sheet, length, b, 0) != 9; }
+static void plain_tests(void) { wrong |= plain_ocean_tide(11, c, 78, s, 78, sheet, length, b, 0) != 9; }
+static void doubles_tests(void) { wrong |= (uint32_t)doubles_sheet_test(sheet, length); }
 static void unit_two(void) { wrong |= surfgimlet_step_two(DEGREE, c, SIZE, s, SIZE, b, 1); }
 static void plain_two(void) { wrong |= plain_step_two(DEGREE, c, SIZE, s, SIZE, b, 1); }
 static void doubles_two(void) { doubles_step_two(cd, sd, radians, 1); }
@@ -118,6 +122,7 @@ int main(void)
     puts("nanoseconds a call                            unit     C, -O3    doubles   unit/C   unit/doubles");
     make_sheet(128, 32, 90);
     compare("ocean, 128 lines, 32 tides, 90 places", unit_ocean, plain_ocean, doubles_ocean, 1);
+    compare("  of which its tests", unit_tests, plain_tests, doubles_tests, 1);
     make_sheet(8, 2, 6);
     compare("ocean, 8 lines, 2 tides, 6 places", unit_ocean, plain_ocean, doubles_ocean, 1);
     compare("step two, anelastic", unit_two, plain_two, doubles_two, 1);

@@ -15,6 +15,7 @@ void doubles_prepare(void);
 double doubles_sine(double x);
 void doubles_step_one(double *c, double *s, surfgimlet_body moon, surfgimlet_body sun);
 void doubles_step_two(double *c, double *s, const double b[6], int love);
+int doubles_sheet_test(const uint8_t *sheet, size_t length);
 int doubles_ocean_tide(double *c, double *s, const uint8_t *sheet, size_t length, const double b[6]);
 
 #endif

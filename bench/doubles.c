@@ -55,6 +55,13 @@ void doubles_step_one(double *c, double *s, surfgimlet_body moon, surfgimlet_bod
     c[3] -= 4.4228e-8 * -0.31460 * 0.30190;
 }
 
+int doubles_sheet_test(const uint8_t *sheet, size_t length)
+{
+    model_sheet t;
+    if (model_layout(sheet, length, &t)) return 7;
+    return model_values(&t) ? 0 : 8;
+}
+
 int doubles_ocean_tide(double *c, double *s, const uint8_t *sheet, size_t length, const double b[6])
 {
     model_sheet t;
