@@ -4,9 +4,9 @@ ghost use Prim.Native.Nat.{_^_, _≤_, _<_};
 ghost use lib.IntN.{natAbs, pos};
 ghost use lib.ListN.{length, getD};
 ghost use Rattle.refusals.specs.Numbers.{answerNumber};
-ghost use Rattle.field.specs.Added.{corrected, addedFrom};
+ghost use Rattle.field.specs.Added.{corrected};
 ghost use Rattle.field.specs.Field.{size, everyInRange, shapedBy, fieldRefusal};
-ghost use Rattle.field.specs.Inner.{Ready};
+ghost use Rattle.field.specs.Inner.{Ready, addedFrom};
 use refusals::Answer;
 use refusals::Refusal;
 
