@@ -2,18 +2,14 @@
 # Builds the example from an installed unit through pkg-config, runs it in C, Fortran and Python, and holds each to epoch.stdout.
 # run.sh PREFIX takes what install.sh has laid there; without PREFIX it installs into a temporary folder.
 set -eu
-cd "$(dirname "${BASH_SOURCE[0]}")/.."
-. tests/boundary/machine.sh
-command -v pkg-config >/dev/null || { echo "missing: pkg-config (Debian's package pkg-config)"; exit 1; }
 work=$(mktemp -d)
 trap 'rm -rf "$work"' EXIT
+prefix=$work/prefix
+[ $# = 0 ] || prefix=$(cd "$1" && pwd)
+cd "$(dirname "${BASH_SOURCE[0]}")/.."
+. tests/boundary/machine.sh
 
-prefix=${1:-$work/moved}
-if [ $# = 0 ]; then
-    CC=$CC bash install.sh "$work/laid"
-    mv "$work/laid" "$prefix"
-    ! grep -rlF -e "$PWD" -e "$work" "$prefix" || { echo "the files above name a folder of this machine"; exit 1; }
-fi
+[ $# = 1 ] || CC=$CC bash install.sh "$prefix"
 [ -e "$prefix/lib/pkgconfig/surfgimlet.pc" ] || { echo "nothing is installed under $prefix"; exit 1; }
 export PKG_CONFIG_PATH=$prefix/lib/pkgconfig LD_LIBRARY_PATH=$prefix/lib
 flags=$(pkg-config --cflags --libs surfgimlet)

@@ -1,4 +1,4 @@
-/* Ignores the answer of every call that has one: tests/ignored.sh wants a warning for each. */
+/* Ignores the answer of every call that has one: tests/header.sh wants a warning for each. */
 #include "surfgimlet.h"
 
 void ignored(int64_t *c, int64_t *s, int32_t *multipliers, uint32_t *number, size_t *place, surfgimlet_phases at, surfgimlet_body body);
