@@ -1,4 +1,4 @@
-"""A refusal's words stand in README's table; the header, the Fortran module and the Python module must have the same."""
+"""A refusal's words and each call's order of refusals stand in README's tables; header, Fortran module and Python module must have the same."""
 import pathlib
 import re
 import sys
@@ -29,14 +29,24 @@ def in_python():
     return {int(number): words for number, words in re.findall(r'^    (\d+): "(.*)",$', read('bindings/surfgimlet.py'), re.M)}
 
 
+def orders():
+    """(call, README's order, the header's) of each call; the header has 100 first where a call takes a choice."""
+    table = dict(re.findall(r'^\| `(\w+)` \|.*\| ([^|]*) \|$', read('README.md').partition('| Call | Given |')[2].partition('\n\n')[0], re.M))
+    header = dict((call, order) for order, call in re.findall(r'Refused: ([^*]*?) \*/\nSURFGIMLET_ANSWER uint32_t surfgimlet_(\w+)', read('include/surfgimlet.h')))
+    for call in sorted(table.keys() | header.keys()):
+        in_table, in_header = (re.findall(r'\d+', order.get(call, '')) for order in (table, header))
+        yield call, in_table, in_header[1:] if in_header[:1] == ['100'] else in_header
+
+
 def main():
     wanted = {0: 'accepted', **in_readme()}
-    faults = [] if len(wanted) == 13 else [f'README.md: {len(wanted)} answers and not 13']
+    faults = [] if len(wanted) > 1 else ['README.md: its table of refusals is not found']
     for name, words in (('include/surfgimlet.h', in_header()), ('bindings/surfgimlet.f90', in_fortran()), ('bindings/surfgimlet.py', in_python())):
         for number in sorted(wanted.keys() | words.keys()):
             if wanted.get(number) != words.get(number):
                 faults.append(f'{name}: {number} is "{words.get(number)}", in README.md "{wanted.get(number)}"')
-    print('\n'.join(faults) or f'words: {len(wanted)} answers, the same in README, header, Fortran and Python')
+    faults += [f'{call}: README.md has the order {ours}, the header {theirs}' for call, ours, theirs in orders() if ours != theirs]
+    print('\n'.join(faults) or f'words: {len(wanted)} answers and the order of each call, the same in README, header, Fortran and Python')
     return bool(faults)
 
 
