@@ -8,14 +8,14 @@ prefix=$(cd "$1" && pwd)
 cd "$(dirname "${BASH_SOURCE[0]}")"
 
 [ -n "${CC:-}" ] || { [ "$(uname -m)" = x86_64 ] && CC=gcc || CC=x86_64-linux-gnu-gcc; }
-for tool in rt "$CC"; do command -v "$tool" >/dev/null || { echo "missing: $tool" >&2; exit 1; }; done
+for tool in rt ${CC%% *}; do command -v "$tool" >/dev/null || { echo "missing: $tool" >&2; exit 1; }; done
 
 mkdir -p target "$prefix/include" "$prefix/lib/pkgconfig" "$prefix/share/surfgimlet"
 rt staticlib boundary >target/install.log 2>&1 || { tail -n 20 target/install.log >&2; exit 1; }
 
 lib=$prefix/lib
 install -m 644 target/staticlib/libboundary.a "$lib/libsurfgimlet.a"
-"$CC" -shared -Wl,-soname,libsurfgimlet.so.1 -Wl,-z,defs -Wl,--whole-archive "$lib/libsurfgimlet.a" -Wl,--no-whole-archive -o "$lib/libsurfgimlet.so.1"
+$CC -shared -Wl,-soname,libsurfgimlet.so.1 -Wl,-z,defs -Wl,--whole-archive "$lib/libsurfgimlet.a" -Wl,--no-whole-archive -o "$lib/libsurfgimlet.so.1"
 ln -sf libsurfgimlet.so.1 "$lib/libsurfgimlet.so"
 install -m 644 include/surfgimlet.h "$prefix/include/"
 install -m 644 bindings/surfgimlet.f90 bindings/surfgimlet.py "$prefix/share/surfgimlet/"

@@ -7,8 +7,8 @@
  * call leaves the sum even where that lies outside the range; the next call on that field then answers 2.
  *
  * Every call but surfgimlet_version answers 0, or the number of a refusal: the first that applies in the order printed
- * at the call. A refused call changes nothing it was lent, so an answer that nobody looks at is a field without its tide:
- * compilers that can warn of one.
+ * at the call. A refused call changes nothing it was lent, so an answer that nobody looks at may be a field without its
+ * tide: compilers that can warn of it do.
  *
  * No call allocates, locks, keeps anything between calls, writes a file or fails to return; calls on different memory may
  * run at the same time.
