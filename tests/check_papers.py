@@ -1,4 +1,5 @@
-"""What the papers say of the repository, held to it: the files they name, README's floors, the lines of docs/RULES.md, the version."""
+"""What the papers say, held to the repository: the files they name, README's floors, the version; and the tables of docs/RULES.md, held to
+second/tides.py."""
 import pathlib
 import re
 import sys
@@ -41,6 +42,21 @@ def lines():
         yield 'docs/RULES.md: its lines are not the 49 of second/tides.py'
 
 
+def constants():
+    text = read('docs/RULES.md')
+    for love in (tides.ELASTIC, tides.ANELASTIC):
+        row = re.search(rf'^\| {love} \|(.*)\|$', text, re.M)[1]
+        degree_2, degree_3 = ([part for m in range(n + 1) for part in tides.K[love][n, m] if part] for n in (2, 3))
+        wanted = [*map(abs, degree_2), *tides.K_PLUS[love], *(degree_3 if love == tides.ELASTIC else ())]
+        if [float(number) for number in re.findall(r'-?0\.\d+', row)] != wanted:
+            yield f'docs/RULES.md: its {love} Love numbers are not those of second/tides.py'
+    parts = [number for row in re.findall(r'^\| (?:zero|mean)-tide less .*$', text, re.M) for number in re.findall(r'-\d{7,}', row)]
+    if [int(number) for number in parts] != [*tides.PERMANENT.values(), tides.MEAN_OVER_ZERO, tides.MEAN_OVER_ZERO]:
+        yield 'docs/RULES.md: its permanent parts are not those of second/tides.py'
+    if f'R = {tides.RADIUS} m' not in text:
+        yield 'docs/RULES.md: its R is not that of second/tides.py'
+
+
 def version():
     number = int(re.search(r'#define SURFGIMLET_VERSION (\d+)\n', read('include/surfgimlet.h'))[1])
     words = f'{number // 1000000}.{number // 1000 % 1000}.{number % 1000}'
@@ -50,8 +66,8 @@ def version():
 
 
 def main():
-    faults = [*files(), *floors(), *lines(), *version()]
-    print('\n'.join(faults) or 'papers: the files, floors, lines and version they name are there')
+    faults = [*files(), *floors(), *lines(), *constants(), *version()]
+    print('\n'.join(faults) or 'papers: the files, floors, tables and version they name are right')
     return bool(faults)
 
 
