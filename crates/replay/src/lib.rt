@@ -4,10 +4,7 @@ ghost use mathlib.Core.Path.{_≡_};
 ghost use Prim.Native.Nat.{_≤_, _<_};
 ghost use lib.ListN.{length, take};
 ghost use Rattle.io.specs.Counts.{Counts};
-ghost use Rattle.choices.specs.Numbers.{refusalNumber, answerNumber};
 use arguments::Phases;
-use choices::Answer;
-use choices::Refusal;
 use libc::STDIN_FILENO;
 use libc::STDOUT_FILENO;
 
@@ -124,35 +121,8 @@ pub fn read_bytes(bytes: &mut [u8]) -> usize
     count
 }
 
-pub fn refusal_number(refusal: Refusal) -> u64
-    ensures { λ r. ⌜ r ≡ refusalNumber refusal ⌝ }
-{
-    match refusal {
-        Refusal::FieldShape => 1,
-        Refusal::FieldRange => 2,
-        Refusal::NotFinite => 3,
-        Refusal::BodyRange => 4,
-        Refusal::NotUnit => 5,
-        Refusal::StepOneRange => 6,
-        Refusal::SheetLength => 7,
-        Refusal::SheetValue => 8,
-        Refusal::SheetDegree => 9,
-        Refusal::NotDoodson => 10,
-        Refusal::NoSuchLine => 11,
-    }
-}
-
-pub fn answer_number(answer: Answer) -> u64
-    ensures { λ r. ⌜ r ≡ answerNumber answer ⌝ }
-{
-    match answer {
-        Answer::Accepted => 0,
-        Answer::Refused(refusal) => refusal_number(refusal),
-    }
-}
-
-pub fn write_number(n: u64) {
-    io::print_decimal(STDOUT_FILENO, n);
+pub fn write_number(n: u32) {
+    io::print_decimal(STDOUT_FILENO, n as u64);
 }
 
 // A space and a number.
@@ -161,7 +131,7 @@ pub fn write_next(x: i64) {
     if x < 0 {
         io::write_all(STDOUT_FILENO, &[b'-']);
     }
-    io::print_decimal(STDOUT_FILENO, listing::size(x));
+    io::print_decimal(STDOUT_FILENO, whole::size_of(x));
 }
 
 // A space and an index.

@@ -3,15 +3,15 @@
 use arguments::Multipliers;
 use bodies::Body;
 use bodies::Place;
-use choices::Answer;
 use choices::Frame;
 use choices::LoveModel;
 use choices::PermanentSystem;
-use choices::Refusal;
 use doodson::Read;
 use doodson::Written;
 use lines::Sought;
 use permanent::Moved;
+use refusals::Answer;
+use refusals::Refusal;
 use replay::read_f64;
 use replay::read_i32;
 use replay::read_i64;
@@ -24,7 +24,7 @@ use replay::write_number;
 const ROOM: usize = 2048;
 
 fn write_refused(refusal: Refusal) {
-    write_number(replay::refusal_number(refusal));
+    write_number(refusals::refusal_number(refusal));
 }
 
 fn write_small(x: i32) {
@@ -185,7 +185,7 @@ fn over_lists(call: u8, n: u32, c: &mut [i64], s: &mut [i64]) {
     replay::read_entries(c);
     replay::read_entries(s);
     let answer = called(call, n, c, s);
-    write_number(replay::answer_number(answer));
+    write_number(refusals::answer_number(answer));
     replay::write_entries(c);
     replay::write_entries(s);
 }
