@@ -1,4 +1,5 @@
-"""Holds docs/PROMISES.md to the files: each name in its tables exists, and each must-fail edit is cited there.
+"""Holds docs/PROMISES.md to the files: each name in its tables exists, and each must-fail edit is cited there; and docs/DECISIONS.md names each edit
+that changes a definition and not the code.
 
 A name stands in backquotes: `x.specs.Y`, `x.proofs.Y` and `x.specs.Y.name`; `x::f`; `x/slip`. A bare name belongs to what stands before it in
 its cell: to the module, the crate or the edit's crate named last. Where the cell names none, it is a crate or is declared in some specs file.
@@ -29,6 +30,13 @@ def functions(crate):
 
 def edits():
     return {f'{path.parts[-3]}/{path.stem}' for path in CRATES.glob('*/must-fail/*.edit')}
+
+
+def of_a_definition():
+    """The edits that change no file of the code."""
+    for path in sorted(CRATES.glob('*/must-fail/*.edit')):
+        if not re.search(r'^file: src/', path.read_text(encoding='utf-8'), re.M):
+            yield f'{path.parts[-3]}/{path.stem}'
 
 
 def module(name):
@@ -99,6 +107,8 @@ def main():
                     faults.append(f'docs/PROMISES.md:{number}: `{name}` is not in the files')
             cited |= cell.cited
     faults += [f'crates/{edit.replace("/", "/must-fail/")}.edit is not cited in docs/PROMISES.md' for edit in sorted(all_edits - cited)]
+    told = set(re.findall(r'`(?:\w+/)?(\w+)`', (ROOT / 'docs' / 'DECISIONS.md').read_text(encoding='utf-8')))
+    faults += [f'docs/DECISIONS.md does not name `{edit}`, which changes a definition' for edit in of_a_definition() if edit.split('/')[1] not in told]
     if names == 0:
         faults.append('docs/PROMISES.md has no table with names')
     print('\n'.join(faults) if faults else f'promises: {names} names exist, {len(all_edits)} edits are cited')
