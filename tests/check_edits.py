@@ -40,33 +40,40 @@ def refusals(log, folder):
         yield path.relative_to(folder) if path.is_relative_to(folder) else path, message
 
 
-def fault(edit):
-    """Why the edit shows nothing, or None."""
+def judged(edit):
+    """Why the edit shows nothing, or None; and the file in which the prover first refuses it."""
     folder = ROOT / 'target' / 'must-fail' / edit.parts[-3] / edit.stem
     if not (folder / '.log').is_file():
-        return 'no log: it was not tried, or no longer fits the text'
+        return 'no log: it was not tried, or no longer fits the text', None
     log = (folder / '.log').read_text(encoding='utf-8', errors='replace')
     if not re.search(r'^logic=not-proved', log, re.M):
-        return 'not refused by the prover'
+        return 'not refused by the prover', None
     if 'proofs' in folders(edit):
-        return 'it changes a proof'
+        return 'it changes a proof', None
     first = next(((path, message) for path, message in refusals(log, folder) if RESTS_ON not in message), None)
     if first is None:
-        return 'the log names nothing that was refused'
+        return 'the log names nothing that was refused', None
     path, message = first
     if path.parts[0] != 'proofs' and not message.startswith('it is not proved that'):
-        return f'an error in {path}, not at a fact: {message[:100]}'
-    return next((f'{why}, in {path}: {message[:100]}' for words, why in SHAPE.items() if words in message.split('. ')[0]), None)
+        return f'an error in {path}, not at a fact: {message[:100]}', path
+    return next((f'{why}, in {path}: {message[:100]}' for words, why in SHAPE.items() if words in message.split('. ')[0]), None), path
 
 
 def main():
     edits = sorted((ROOT / 'crates').glob('*/must-fail/*.edit'))
     wanted = set(sys.argv[1:])               # crates; all where none is named
     edits = [edit for edit in edits if not wanted or edit.parts[-3] in wanted]
-    faults = [f'{edit.parts[-3]}/{edit.stem}: {why}' for edit in edits if (why := fault(edit))]
+    name = lambda edit: f'{edit.parts[-3]}/{edit.stem}'
+    faults, in_laws = [], []
+    for edit in edits:
+        why, path = judged(edit)
+        if why:
+            faults.append(f'{name(edit)}: {why}')
+        elif path.parent == Path('proofs'):
+            in_laws.append(name(edit))
     print('\n'.join(faults) if faults else f'edits: all {len(edits)} are refused at a fact')
     code = sum('src' in folders(edit) for edit in edits)
-    print(f'{code} change the code, {len(edits) - code} a definition or a stated value alone')
+    print(f'{code} change the code, {len(edits) - code} a definition or a stated value alone; first refused in a file of laws: {", ".join(in_laws) or "none"}')
     sys.exit(bool(faults) or not edits)
 
 
