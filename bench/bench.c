@@ -10,6 +10,7 @@
 
 #define SIZE 1891
 #define ROUNDS 300
+#define CALLS 60000
 
 enum { STEP_ONE, STEP_TWO, OCEAN };
 
@@ -130,12 +131,13 @@ static void hold(int what)
     }
 }
 
-/* accepted calls, and calls with one thing at fault: an entry, a float, a byte of the sheet, its length, N */
+/* accepted calls, and calls with one thing at fault: an entry, a float, the Moon's mass, a byte of the sheet, its length, N */
 static void hold_all(void)
 {
     static const uint32_t degrees[6] = {4, 12, 60, 7, 3, 61};
     static const double floats[8] = {0, -1, 1e8, 1e12, 1e160, -0.0, 1e6, 2.5e11};
-    for (long i = 0; i < 60000; i++) {
+    long refused[101] = {0};
+    for (long i = 0; i < CALLS; i++) {
         int what = (int)(i % 3), fault = (int)any(12);
         int64_t edge = (int64_t)1 << 60;
         n = degrees[any(100) ? any(4) : any(6)];
@@ -149,10 +151,13 @@ static void hold_all(void)
         if (fault == 1) *(&(any(2) ? &moon : &sun)->ratio + any(5)) = any(4) ? floats[any(8)] : any(2) ? NAN : INFINITY;
         if (fault == 2) sheet[any(length + 1)] = (uint8_t)any(256);
         if (fault == 3) length += (size_t)within(1);
-        if (fault == 4) { moon.ratio *= 1e6; moon.r = 1e8; }
+        if (fault == 4) moon = any_body((double)(100000 + any(900001)), 1e8, 1.5e8);
         hold(what);
+        refused[answer]++;
     }
-    puts("best.c: the unit's answers and counts on 60000 calls\n");
+    printf("best.c: the unit's answers and counts on %d calls; answered", CALLS);
+    for (int i = 0; i <= 100; i++) if (refused[i]) printf(" %d: %ld", i, refused[i]);
+    puts("\n");
 }
 
 /* ---- times */
