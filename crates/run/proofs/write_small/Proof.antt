@@ -1,8 +1,8 @@
 -- 32 bits fit 64.
 use borrow.Author.Needs.{needs}
 use mir.Facts.{toZ-ofZ, sfits-widen}
-use Rattle.run_numbers.proofs.write_small.Statement.{statement}
-use Rattle.run_numbers.proofs.write_small.Tie as tie
+use Rattle.run.proofs.write_small.Statement.{statement}
+use Rattle.run.proofs.write_small.Tie as tie
 
 cast-write-next : tie.Need-cast-write-next
 cast-write-next c = rw (toZ-ofZ (c .fits .x)) (sfits-widen tt (c .fits .x))

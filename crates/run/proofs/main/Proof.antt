@@ -1,14 +1,14 @@
--- The fields still to be run fall with each turn.
+-- The cases still to be run fall with each turn.
 use Prim.Native.Nat.{_≤_, _-_}
 use borrow.Author.Needs.{needs}
-use Rattle.run_ocean.proofs.main.Statement.{statement}
-use Rattle.run_ocean.proofs.main.Tie as tie
+use Rattle.run.proofs.main.Statement.{statement}
+use Rattle.run.proofs.main.Tie as tie
 
 abbrev Inv-loop : tie.InvT-loop
-Inv-loop fields k₀ k = k ≤ fields
+Inv-loop cases k₀ k = k ≤ cases
 
 abbrev μ-loop : tie.MeasureT-loop
-μ-loop fields k₀ k = fields - k
+μ-loop cases k₀ k = cases - k
 
 read-u32-requires : tie.Need-read-u32-requires Inv-loop μ-loop
 read-u32-requires c κs = search needs
@@ -16,8 +16,8 @@ read-u32-requires c κs = search needs
 loop-holds : tie.Need-loop-holds Inv-loop μ-loop
 loop-holds c = search needs
 
-replay-field-requires : tie.Need-replay-field-requires Inv-loop μ-loop
-replay-field-requires c κs = search needs
+run-case-requires : tie.Need-run-case-requires Inv-loop μ-loop
+run-case-requires c κs = search needs
 
 add-k : tie.Need-add-k Inv-loop μ-loop
 add-k c = search needs
@@ -39,7 +39,7 @@ main-spec =
     μ-loop
     read-u32-requires
     loop-holds
-    replay-field-requires
+    run-case-requires
     add-k
     loop-less
     loop-again
