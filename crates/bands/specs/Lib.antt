@@ -1,2 +1,2 @@
 pub mod Bands
-pub mod Room
+pub mod Inner

@@ -2,7 +2,7 @@
 ghost use mathlib.Core.Path.{_≡_};
 ghost use lib.IntN.{_+ℤ_, _*ℤ_};
 ghost use Rattle.bands.specs.Bands.{plusLine};
-ghost use Rattle.bands.specs.Room.{Room, LineRoom};
+ghost use Rattle.bands.specs.Inner.{Room, LineRoom};
 
 pub enum Band {
     Diurnal,

@@ -12,11 +12,15 @@ use lib.ListN.{length, getD}
 use mir.Syntax.{w64}
 use mir.Val.{toZ, ofZ}
 use mir.Facts.{toZ-ofZ}
-use Rattle.whole.proofs.Parts.{fits-abs}
+use Rattle.whole.proofs.Parts.{fits-abs, abs-product}
+use Rattle.bands.specs.declared.Band.{Band}
+use Rattle.bands.specs.declared.Band.the-variants.{Diurnal, LongPeriod, Semidiurnal}
+use Rattle.choices.specs.declared.LoveModel.{LoveModel}
+use Rattle.choices.specs.declared.LoveModel.the-variants.{Elastic, Anelastic}
 use Rattle.whole.proofs.Tests.{and-left, and-right}
 use Rattle.doodson.specs.Doodson.{isDoodson, digit, multipliersIn}
-use Rattle.lines.specs.Lines.{diurnal, longPeriod, semidiurnal, printed, lineAt, multipliersAt, nowhere, Printed}
-use Rattle.lines.specs.Columns.{digitsOf, numberIn, multipliersBy, digits, firsts, seconds}
+use Rattle.lines.specs.Lines.{diurnal, longPeriod, semidiurnal, printed, lineAt, multipliersAt, bandAt, inCounts, inModel, printedLine, nowhere, Printed}
+use Rattle.lines.specs.Inner.{digitsOf, numberIn, multipliersBy, digits, firsts, seconds}
 
 pub count : length printed ≡ 49
 unfolding printed diurnal longPeriod semidiurnal
@@ -58,6 +62,23 @@ each-small (l ∷ ls) e (suc i) = each-small ls (and-right (leb (natAbs (l .firs
 pub amplitudes-small : (i : ℕ) → (natAbs (lineAt i .first) ≤ 4720) × (natAbs (lineAt i .second) ≤ 4720)
 unfolding small lineAt printed diurnal longPeriod semidiurnal
 amplitudes-small i = each-small printed refl i
+
+-- so no printed line has more than 472,000 counts in phase or out of it, in either model
+counts-small : (a : ℤ) → natAbs a ≤ 4720 → natAbs (inCounts a) ≤ 472000
+counts-small a h = omega (arith, abs-product a (pos 100))
+
+model-small : (band : Band) (love : LoveModel) (a b : ℤ) → natAbs a ≤ 4720 → natAbs b ≤ 4720
+    → (natAbs (inModel band love a b .ip) ≤ 472000) × (natAbs (inModel band love a b .op) ≤ 472000)
+unfolding inModel
+model-small Diurnal Elastic a b ha hb = (counts-small a ha, omega arith)
+model-small Diurnal Anelastic a b ha hb = (counts-small b hb, omega arith)
+model-small LongPeriod Elastic a b ha hb = (omega arith, omega arith)
+model-small LongPeriod Anelastic a b ha hb = (counts-small a ha, counts-small b hb)
+model-small Semidiurnal love a b ha hb = (counts-small a ha, omega arith)
+
+pub printed-small : (love : LoveModel) (i : ℕ) → (natAbs (printedLine love i .ip) ≤ 472000) × (natAbs (printedLine love i .op) ≤ 472000)
+unfolding printedLine
+printed-small love i = model-small (bandAt i) love (lineAt i .first) (lineAt i .second) (amplitudes-small i .0) (amplitudes-small i .1)
 
 -- ---- the columns as the code has them
 module _ (f : Printed → ℤ) (most : (i : ℕ) → natAbs (f (lineAt i)) ≤ 4720) (l : List ℤ) (i : ℕ) (h : i < 49) where

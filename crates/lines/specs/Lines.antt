@@ -6,6 +6,8 @@ use lib.Dec.{ltb, eqb}
 use lib.IntN.{ℤ, pos, negℤ, _*ℤ_}
 use lib.ListN.{getD}
 use Rattle.arguments.specs.declared.Multipliers.{Multipliers}
+use Rattle.arguments.specs.declared.Phases.{Phases}
+use Rattle.arguments.specs.Phase.{phase}
 use Rattle.bands.specs.declared.Band.{Band}
 use Rattle.bands.specs.declared.Band.the-variants.{Diurnal, LongPeriod, Semidiurnal}
 use Rattle.bands.specs.declared.Line.{Line as BandLine}
@@ -111,6 +113,10 @@ lineAt i = getD printed i nowhere
 -- a printed line's multipliers are those in its number
 unfoldable pub multipliersAt : ℕ → Multipliers
 multipliersAt i = multipliersIn (lineAt i .number)
+
+-- its phase at six arguments
+abbrev pub linePhase : Phases → ℕ → ℕ
+linePhase phases i = phase (multipliersAt i) phases
 
 -- index 0..48: diurnal, long period, semidiurnal
 unfoldable pub bandAt : ℕ → Band

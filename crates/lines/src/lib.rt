@@ -3,7 +3,7 @@ ghost use mathlib.Core.Path.{_≡_};
 ghost use Prim.Native.Nat.{_≤_, _<_};
 ghost use lib.IntN.{natAbs};
 ghost use Rattle.lines.specs.Lines.{lineAt, multipliersAt, bandAt, inModel, printedLine, findLine, tells};
-ghost use Rattle.lines.specs.Columns.{numberIn, multipliersBy, digits as digitsColumn, firsts, seconds};
+ghost use Rattle.lines.specs.Inner.{numberIn, multipliersBy, digits as digitsColumn, firsts, seconds};
 use arguments::Multipliers;
 use bands::Band;
 use bands::Line;

@@ -7,7 +7,7 @@ use lib.IntN.{ℤ, pos, negℤ, natAbs, _-ℤ_}
 use mir.Syntax.{w64}
 use mir.Val.{toZ, ofZ}
 use Rattle.bands.specs.declared.Sums.{Sums}
-use Rattle.bands.specs.Room.{Room}
+use Rattle.bands.specs.Inner.{Room}
 use Rattle.bands.proofs.Terms.{read, minus-fits, minus-read, minus-small, room, grown, diurnal, long-period, semidiurnal}
 use Rattle.bands.proofs.with_line.Statement.{statement}
 use Rattle.bands.proofs.with_line.Tie as tie

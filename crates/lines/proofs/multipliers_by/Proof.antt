@@ -6,7 +6,7 @@ use native.Mathlib.Omega.{arith}
 use mir.Syntax.{w32}
 use mir.Facts.{toZ-pos}
 use Rattle.whole.proofs.Machine.{back}
-use Rattle.lines.specs.Columns.{multipliersBy}
+use Rattle.lines.specs.Inner.{multipliersBy}
 use Rattle.lines.proofs.multipliers_by.Statement.{statement}
 use Rattle.lines.proofs.multipliers_by.Tie as tie
 

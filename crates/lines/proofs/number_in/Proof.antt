@@ -1,7 +1,7 @@
 -- The code is the definition.
 use borrow.Author.Needs.{needs}
 use mathlib.Core.Path.{refl}
-use Rattle.lines.specs.Columns.{numberIn}
+use Rattle.lines.specs.Inner.{numberIn}
 use Rattle.lines.proofs.number_in.Statement.{statement}
 use Rattle.lines.proofs.number_in.Tie as tie
 

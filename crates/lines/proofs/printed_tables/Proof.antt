@@ -1,7 +1,7 @@
 -- Each table is a column of the printed lines.
 use mathlib.Core.Path.{refl}
 use Rattle.lines.specs.Lines.{diurnal, longPeriod, semidiurnal, printed}
-use Rattle.lines.specs.Columns.{digitsOf, digits, firsts, seconds}
+use Rattle.lines.specs.Inner.{digitsOf, digits, firsts, seconds}
 use Rattle.lines.proofs.printed_tables.Statement.{statement}
 use Rattle.lines.proofs.printed_tables.Tie as tie
 
