@@ -13,8 +13,9 @@ use Rattle.bands.specs.declared.Band.the-variants.{Diurnal, LongPeriod, Semidiu
 use Rattle.bands.specs.declared.Line.{Line as BandLine}
 use Rattle.choices.specs.declared.LoveModel.{LoveModel}
 use Rattle.choices.specs.declared.LoveModel.the-variants.{Elastic, Anelastic}
-use Rattle.choices.specs.Numbers.{Told, refusalNumber}
-use Rattle.choices.specs.Numbers.Told.{accepted, refused}
+use Rattle.refusals.specs.Numbers.{refusalNumber}
+use Rattle.refusals.specs.Told.{Told}
+use Rattle.refusals.specs.Told.Told.{accepted, refused}
 use Rattle.doodson.specs.Doodson.{isDoodson, multipliersIn}
 use Rattle.lines.specs.declared.Sought.{Sought}
 use Rattle.lines.specs.declared.Sought.the-variants.{Line, Refused}

@@ -8,7 +8,7 @@ use arguments::Multipliers;
 use bands::Band;
 use bands::Line;
 use choices::LoveModel;
-use choices::Refusal;
+use refusals::Refusal;
 
 // Doodson numbers, a decimal digit written as a hexadecimal one, so that reading a digit takes no division.
 const DIGITS: [u32; 49] = [

@@ -29,8 +29,8 @@ pub record Bounded (sums : Sums) : Type 0 where
   pub c22 : natAbs (sums .c22) ≤ 2 ^ 62
   pub s22 : natAbs (sums .s22) ≤ 2 ^ 62
 
-unfoldable pub nearestOf : Sums → Corrections
-nearestOf sums = record {
+unfoldable pub roundedOf : Sums → Corrections
+roundedOf sums = record {
   c20 = nearest (sums .c20) (2 ^ 30);
   c21 = nearest (sums .c21) (2 ^ 30);
   s21 = nearest (sums .s21) (2 ^ 30);

@@ -7,8 +7,9 @@ use Rattle.bands.specs.declared.Line.{Line}
 use Rattle.bands.specs.Bands.{Coefficient, C20, C21, S21, C22, S22, term}
 use Rattle.choices.specs.declared.LoveModel.{LoveModel}
 use Rattle.field.specs.Field.{place, fieldRefusal}
-use Rattle.field.specs.Outcome.{corrected, unlessRefused, Outcome}
+use Rattle.field.specs.Added.{corrected}
 use Rattle.lines.specs.Lines.{linePhase, printedLine}
+use Rattle.refusals.specs.Outcome.{unlessRefused, Outcome}
 use Rattle.wave.specs.Wave.{sin, cos}
 use Rattle.whole.specs.Nearest.{nearest}
 use Rattle.whole.specs.Sum.{sumTo}

@@ -1,16 +1,16 @@
 // Step two of the solid tide (001, Tables 6.2; document 01, "Step two"): what the printed lines add to degree two.
 ghost use mathlib.Core.Path.{_≡_};
-ghost use Rattle.choices.specs.Numbers.{answerNumber};
-ghost use Rattle.field.specs.Outcome.{Gives};
 ghost use Rattle.hour.specs.Inner.{kept};
 ghost use Rattle.lines.specs.Lines.{printedLine};
+ghost use Rattle.refusals.specs.Numbers.{answerNumber};
+ghost use Rattle.refusals.specs.Outcome.{Gives};
 ghost use Rattle.step_two.specs.StepTwo.{corrections, addedC, addedS, stepTwo};
-ghost use Rattle.step_two.specs.Inner.{sumsOf, nearestOf, Bounded, Room, Small};
+ghost use Rattle.step_two.specs.Inner.{sumsOf, roundedOf, Bounded, Room, Small};
 use arguments::Phases;
 use bands::Sums;
-use choices::Answer;
 use choices::LoveModel;
 use hour::Waves;
+use refusals::Answer;
 
 // The five corrections, in counts.
 pub struct Corrections {
@@ -47,16 +47,16 @@ pub fn sums_of(love: LoveModel, waves: Waves) -> Sums
 }
 
 // Each correction is the nearest of its sum.
-pub fn nearest_of(sums: Sums) -> Corrections
+pub fn rounded_of(sums: Sums) -> Corrections
     requires { ⌜ Bounded sums ⌝ }
-    ensures { λ r. ⌜ r ≡ nearestOf sums ⌝ }
+    ensures { λ r. ⌜ r ≡ roundedOf sums ⌝ }
 {
     Corrections {
-        c20: whole::nearest_30(sums.c20),
-        c21: whole::nearest_30(sums.c21),
-        s21: whole::nearest_30(sums.s21),
-        c22: whole::nearest_30(sums.c22),
-        s22: whole::nearest_30(sums.s22),
+        c20: whole::nearest_of(sums.c20, 1073741824),
+        c21: whole::nearest_of(sums.c21, 1073741824),
+        s21: whole::nearest_of(sums.s21, 1073741824),
+        c22: whole::nearest_of(sums.c22, 1073741824),
+        s22: whole::nearest_of(sums.s22, 1073741824),
     }
 }
 
@@ -65,7 +65,7 @@ pub fn nearest_of(sums: Sums) -> Corrections
 pub fn corrections_of(phases: Phases, love: LoveModel) -> Corrections
     ensures { λ r. ⌜ r ≡ corrections phases love ⌝ }
 {
-    nearest_of(sums_of(love, hour::waves_of(phases, love)))
+    rounded_of(sums_of(love, hour::waves_of(phases, love)))
 }
 
 // Adds the corrections of C.

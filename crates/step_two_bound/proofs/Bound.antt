@@ -14,7 +14,7 @@ use Rattle.bands.specs.Bands.{Coefficient, C20, C21, S21, C22, S22, taken, term
 use Rattle.bands.proofs.Terms.{taken-size}
 use Rattle.choices.specs.declared.LoveModel.{LoveModel}
 use Rattle.field.specs.Field.{place, fieldRefusal}
-use Rattle.field.proofs.Outcomes.{accepted-field, degree-two}
+use Rattle.field.proofs.Accepted.{accepted-field, degree-two}
 use Rattle.lines.specs.Lines.{linePhase, printedLine}
 use Rattle.lines.proofs.Table.{printed-small}
 use Rattle.series.specs.Exact.{bottom, factorial, denominator, scale}

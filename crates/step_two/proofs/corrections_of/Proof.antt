@@ -9,27 +9,27 @@ use Rattle.lines.specs.Lines.{linePhase, printedLine}
 use Rattle.wave.specs.Wave.{sin, cos}
 use Rattle.whole.specs.Nearest.{nearest}
 use Rattle.step_two.specs.StepTwo.{sumOf, correctionOf, correction, corrections}
-use Rattle.step_two.specs.Inner.{sumsOf, nearestOf}
+use Rattle.step_two.specs.Inner.{sumsOf, roundedOf}
 use Rattle.step_two.proofs.Unused.{waved-sum}
 use Rattle.step_two.proofs.corrections_of.Statement.{statement}
 use Rattle.step_two.proofs.corrections_of.Tie as tie
 
-nearest-of-requires : tie.Need-nearest-of-requires
-nearest-of-requires c κs = c .sums-of .ensures .1
+rounded-of-requires : tie.Need-rounded-of-requires
+rounded-of-requires c κs = c .sums-of .ensures .1
 
 returns : tie.Need-returns
-unfolding corrections correction correctionOf nearestOf sumsOf
+unfolding corrections correction correctionOf roundedOf sumsOf
 returns c =
     let a = c .before .before .before .args in
     let w = c .before .before .waves-of in
     let same = waved-sum (a .phases) (a .love) (w .result) (w .ensures) in
     let n : (k : Coefficient) → nearest (sumOf (printedLine (a .love)) (kept (w .result .cosines)) (kept (w .result .sines)) 49 k) (2 ^ 30) ≡ nearest (sumOf (printedLine (a .love)) (λ i. cos (linePhase (a .phases) i)) (λ i. sin (linePhase (a .phases) i)) 49 k) (2 ^ 30)
     = λ k. ap (λ (z : ℤ). nearest z (2 ^ 30)) (same k) in
-    c .nearest-of .ensures
-    ∙ ap nearestOf (c .before .sums-of .ensures .0)
+    c .rounded-of .ensures
+    ∙ ap roundedOf (c .before .sums-of .ensures .0)
     ∙ (λ j. record { c20 = n C20 j; c21 = n C21 j; s21 = n S21 j; c22 = n C22 j; s22 = n S22 j })
 
 pub corrections-of-spec : {M : Type 1} → statement M
 corrections-of-spec =
     tie.close
-    (tie.spec (λ c κs. search needs) (λ c κs. search needs) nearest-of-requires returns)
+    (tie.spec (λ c κs. search needs) (λ c κs. search needs) rounded-of-requires returns)
