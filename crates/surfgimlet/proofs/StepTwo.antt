@@ -12,7 +12,7 @@ use Rattle.field.specs.Added.{addedAt}
 use Rattle.field.specs.Inner.{Small, addedFrom}
 use Rattle.field.proofs.Added.{the-places, at-run}
 use Rattle.step_two.specs.declared.Corrections.{Corrections}
-use Rattle.step_two.specs.Room.{Small as SmallCorrections}
+use Rattle.step_two.specs.Inner.{Small as SmallCorrections}
 use Rattle.whole.proofs.Parts.{fits-abs}
 use Rattle.surfgimlet.specs.Calls.{forC, forS, placesC, placesS}
 

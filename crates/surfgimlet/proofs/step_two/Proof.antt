@@ -12,9 +12,9 @@ use Rattle.refusals.specs.Numbers.{answerNumber}
 use Rattle.refusals.proofs.Numbers.{refusal-not-zero}
 use Rattle.refusals.proofs.Outcomes.{gives-new, gives-kept}
 use Rattle.step_two.specs.declared.Corrections.{Corrections}
-use Rattle.step_two.specs.Room.{Small as SmallCorrections}
+use Rattle.step_two.specs.Inner.{Small as SmallCorrections}
 use Rattle.step_two.specs.StepTwo.{corrections}
-use Rattle.step_two.proofs.Bands.{corrections-small}
+use Rattle.step_two.proofs.Sizes.{corrections-small}
 use Rattle.surfgimlet.specs.Calls.{forC, forS, placesC, placesS, stepTwo}
 use Rattle.surfgimlet.proofs.StepTwo.{read-c, read-s, small-c, small-s, added-c, added-s}
 use Rattle.surfgimlet.proofs.step_two.Statement.{statement}
