@@ -12,8 +12,8 @@ use lib.ListN.{length}
 use Rattle.whole.specs.Sum.{weightTo, allTo}
 use Rattle.field.specs.Field.{place}
 use Rattle.whole.proofs.Tests.{and-left, and-right}
-use Rattle.sheet.specs.Sheet.{lineCount, tideCount, placeCount, endAt, multiplier, admittance, degree, order, sCos, sSin, coefficient}
-use Rattle.sheet.specs.Accepted.{shaped, lineValid, rowValid, countsValid, placeValid, precedes, ascending, valid, reached, ownRefusal, sheetRefusal}
+use Rattle.sheet.specs.Sheet.{lineCount, tideCount, placeCount, sheetEnd, multiplier, admittance, degree, order, sCos, sSin, coefficient}
+use Rattle.sheet.specs.Accepted.{shaped, lineValid, rowValid, countsValid, sZero, placeValid, precedes, ascending, valid, reached, ownRefusal, sheetRefusal}
 use Rattle.sheet.specs.declared.Layout.{Layout}
 use Rattle.sheet.specs.Read.{Whole, Passed}
 use Rattle.field.proofs.Outcomes.{first-none}
@@ -37,13 +37,13 @@ pub record Shape (s : List ℕ) : Type 0 where
   pub tides-least : 1 ≤ tideCount s
   pub tides-most : tideCount s ≤ 32
   pub places-most : placeCount s ≤ 90
-  pub length : length s ≡ endAt s
+  pub length : length s ≡ sheetEnd s
 
 pub shape : (s : List ℕ) → shaped s ≡ true → Shape s
 unfolding shaped
 shape s e =
     let counts = leb 1 (lineCount s) && leb (lineCount s) 128 && leb 1 (tideCount s) && leb (tideCount s) 32 in
-    let five = and-left (counts && leb (placeCount s) 90) (eqb (length s) (endAt s)) e in
+    let five = and-left (counts && leb (placeCount s) 90) (eqb (length s) (sheetEnd s)) e in
     let t = four (leb 1 (lineCount s)) (leb (lineCount s) 128) (leb 1 (tideCount s)) (leb (tideCount s) 32) (and-left counts (leb (placeCount s) 90) five) in
     record {
       lines-least = leb-true 1 (lineCount s) (t .0);
@@ -51,7 +51,7 @@ shape s e =
       tides-least = leb-true 1 (tideCount s) (t .2);
       tides-most = leb-true (tideCount s) 32 (t .3);
       places-most = leb-true (placeCount s) 90 (and-right counts (leb (placeCount s) 90) five);
-      length = eqb-true (length s) (endAt s) (and-right (counts && leb (placeCount s) 90) (eqb (length s) (endAt s)) e);
+      length = eqb-true (length s) (sheetEnd s) (and-right (counts && leb (placeCount s) 90) (eqb (length s) (sheetEnd s)) e);
     }
 
 -- ---- 8
@@ -69,19 +69,6 @@ zero-size (negsuc n) e = absurd (let z : suc n ≡ 0 = eqb-true (suc n) 0 e in o
 zonal : (m : ℕ) (b : Bool) → (ltb 0 m || b) ≡ true → m ≡ 0 → b ≡ true
 zonal m b e z = subst (λ (n : ℕ). (ltb 0 n || b) ≡ true) z e
 
-counts : (s : List ℕ) (j k : ℕ) → countsValid s j k ≡ true → Counts s j k
-unfolding countsValid
-counts s j k e =
-    let range : ℕ → Bool = λ q. leb (natAbs (coefficient s j k q)) (2 ^ 24) in
-    let a = eqb (natAbs (coefficient s j k sCos)) 0 in
-    let b = eqb (natAbs (coefficient s j k sSin)) 0 in
-    let both : order s j ≡ 0 → (a && b) ≡ true = zonal (order s j) (a && b) (and-right (allTo range 4) (ltb 0 (order s j) || a && b) e) in
-    record {
-      small = λ q h. leb-true (natAbs (coefficient s j k q)) (2 ^ 24) (all-at range 4 (and-left (allTo range 4) (ltb 0 (order s j) || a && b) e) q h);
-      s-cos = λ z. zero-size (coefficient s j k sCos) (and-left a b (both z));
-      s-sin = λ z. zero-size (coefficient s j k sSin) (and-right a b (both z));
-    }
-
 pub record Place (s : List ℕ) (j : ℕ) : Type 0 where
   pub degree-least : 1 ≤ degree s j
   pub degree-most : degree s j ≤ 12
@@ -89,14 +76,26 @@ pub record Place (s : List ℕ) (j : ℕ) : Type 0 where
   pub tide : (k : ℕ) → k < tideCount s → Counts s j k
 
 place-of : (s : List ℕ) (j : ℕ) → placeValid s j ≡ true → Place s j
-unfolding placeValid
+unfolding placeValid countsValid sZero
 place-of s j e =
-    let t = four (leb 1 (degree s j)) (leb (degree s j) 12) (leb (order s j) (degree s j)) (allTo (countsValid s j) (tideCount s)) e in
+    let ranges = leb 1 (degree s j) && leb (degree s j) 12 && leb (order s j) (degree s j) in
+    let counts = allTo (countsValid s j) (tideCount s) in
+    let s-zero = allTo (sZero s j) (tideCount s) in
+    let t = four (leb 1 (degree s j)) (leb (degree s j) 12) (leb (order s j) (degree s j)) counts (and-left (ranges && counts) (ltb 0 (order s j) || s-zero) e) in
+    let small : (k : ℕ) → k < tideCount s → (q : ℕ) → q < 4 → natAbs (coefficient s j k q) ≤ 2 ^ 24 =
+    λ k h q g. leb-true (natAbs (coefficient s j k q)) (2 ^ 24) (all-at (λ i. leb (natAbs (coefficient s j k i)) (2 ^ 24)) 4 (all-at (countsValid s j) (tideCount s) (t .3) k h) q g) in
+    let both : order s j ≡ 0 → s-zero ≡ true = zonal (order s j) s-zero (and-right (ranges && counts) (ltb 0 (order s j) || s-zero) e) in
+    let a : ℕ → Bool = λ k. eqb (natAbs (coefficient s j k sCos)) 0 in
+    let b : ℕ → Bool = λ k. eqb (natAbs (coefficient s j k sSin)) 0 in
     record {
       degree-least = leb-true 1 (degree s j) (t .0);
       degree-most = leb-true (degree s j) 12 (t .1);
       order-most = leb-true (order s j) (degree s j) (t .2);
-      tide = λ k h. counts s j k (all-at (countsValid s j) (tideCount s) (t .3) k h);
+      tide = λ k h. record {
+        small = small k h;
+        s-cos = λ z. zero-size (coefficient s j k sCos) (and-left (a k) (b k) (all-at (sZero s j) (tideCount s) (both z) k h));
+        s-sin = λ z. zero-size (coefficient s j k sSin) (and-right (a k) (b k) (all-at (sZero s j) (tideCount s) (both z) k h));
+      };
     }
 
 -- by degree then order is by index, where orders are at most their degrees

@@ -1,3 +1,4 @@
 pub mod Signs
 pub mod Offsets
+pub mod Flat
 pub mod Acceptance
