@@ -1,23 +1,25 @@
 -- What a sheet that is not refused has.
-use mathlib.Core.Path.{_≡_, refl, ap, subst}
+use mathlib.Core.Path.{_≡_, refl, sym, ap, subst}
 use mathlib.Core.Bool.{Bool, true, false, cond, _&&_, _||_}
 use mathlib.Core.List.{List}
-use Prim.Native.Nat.{ℕ, suc, _+_, _-_, _*_, _/_, _^_, _≤_, _<_}
-use native.Mathlib.Nat.{mul-le-mul}
+use Prim.Native.Nat.{ℕ, zero, suc, _+_, _-_, _*_, _/_, _^_, _≤_, _<_}
+use native.Mathlib.Nat.{add-zero, mul-le-mul}
 use native.Mathlib.Omega.{arith}
-use borrow.Author.Tests.{leb-true, ltb-true, eqb-true}
+use borrow.Author.Tests.{leb-true, ltb-true, eqb-true, le-leb}
 use lib.Dec.{leb, ltb, eqb}
 use lib.IntN.{ℤ, pos, negsuc, natAbs}
 use lib.ListN.{length}
 use Rattle.whole.specs.Sum.{weightTo, allTo}
 use Rattle.field.specs.Field.{place}
-use Rattle.whole.proofs.Tests.{and-left, and-right}
+use Rattle.whole.proofs.Tests.{and-left, and-right, both-ends}
+use Rattle.limits.specs.Limits.{isLineCount, isTideCount, isPlaceCount, isSheetDegree}
 use Rattle.sheet.specs.Sheet.{lineCount, tideCount, placeCount, sheetEnd, multiplier, admittance, degree, order, sCos, sSin, coefficient}
 use Rattle.sheet.specs.Accepted.{shaped, lineValid, rowValid, countsValid, sZero, placeValid, precedes, ascending, valid, reached, ownRefusal, sheetRefusal}
 use Rattle.sheet.specs.declared.Layout.{Layout}
 use Rattle.sheet.specs.Read.{Whole, Passed}
-use Rattle.field.proofs.Outcomes.{first-none}
+use Rattle.refusals.proofs.Outcomes.{first-none}
 use Rattle.whole.proofs.Counted.{all-at}
+use Rattle.sheet.proofs.Flat.{all-of}
 
 four : (a b c d : Bool) → (a && b && c && d) ≡ true → (a ≡ true) × (b ≡ true) × (c ≡ true) × (d ≡ true)
 four a b c d e =
@@ -29,6 +31,12 @@ four a b c d e =
 kept : (a : Bool) (x n : ℕ) → cond a x (suc n) ≡ 0 → (a ≡ true) × (x ≡ 0)
 kept true x n e = (refl, e)
 kept false x n e = absurd (omega arith)
+
+-- two tests that pass together
+same-test : (a b : Bool) → (a ≡ true → b ≡ true) → (b ≡ true → a ≡ true) → a ≡ b
+same-test true b f g = sym (f refl)
+same-test false true f g = g refl
+same-test false false f g = refl
 
 -- ---- 7
 pub record Shape (s : List ℕ) : Type 0 where
@@ -42,16 +50,16 @@ pub record Shape (s : List ℕ) : Type 0 where
 pub shape : (s : List ℕ) → shaped s ≡ true → Shape s
 unfolding shaped
 shape s e =
-    let counts = leb 1 (lineCount s) && leb (lineCount s) 128 && leb 1 (tideCount s) && leb (tideCount s) 32 in
-    let five = and-left (counts && leb (placeCount s) 90) (eqb (length s) (sheetEnd s)) e in
-    let t = four (leb 1 (lineCount s)) (leb (lineCount s) 128) (leb 1 (tideCount s)) (leb (tideCount s) 32) (and-left counts (leb (placeCount s) 90) five) in
+    let t = four (isLineCount (lineCount s)) (isTideCount (tideCount s)) (isPlaceCount (placeCount s)) (eqb (length s) (sheetEnd s)) e in
+    let lines = both-ends 1 128 (lineCount s) (t .0) in
+    let tides = both-ends 1 32 (tideCount s) (t .1) in
     record {
-      lines-least = leb-true 1 (lineCount s) (t .0);
-      lines-most = leb-true (lineCount s) 128 (t .1);
-      tides-least = leb-true 1 (tideCount s) (t .2);
-      tides-most = leb-true (tideCount s) 32 (t .3);
-      places-most = leb-true (placeCount s) 90 (and-right counts (leb (placeCount s) 90) five);
-      length = eqb-true (length s) (sheetEnd s) (and-right (counts && leb (placeCount s) 90) (eqb (length s) (sheetEnd s)) e);
+      lines-least = lines .0;
+      lines-most = lines .1;
+      tides-least = tides .0;
+      tides-most = tides .1;
+      places-most = leb-true (placeCount s) 90 (t .2);
+      length = eqb-true (length s) (sheetEnd s) (t .3);
     }
 
 -- ---- 8
@@ -78,19 +86,21 @@ pub record Place (s : List ℕ) (j : ℕ) : Type 0 where
 place-of : (s : List ℕ) (j : ℕ) → placeValid s j ≡ true → Place s j
 unfolding placeValid countsValid sZero
 place-of s j e =
-    let ranges = leb 1 (degree s j) && leb (degree s j) 12 && leb (order s j) (degree s j) in
+    let within = isSheetDegree (degree s j) in
+    let ordered = leb (order s j) (degree s j) in
     let counts = allTo (countsValid s j) (tideCount s) in
     let s-zero = allTo (sZero s j) (tideCount s) in
-    let t = four (leb 1 (degree s j)) (leb (degree s j) 12) (leb (order s j) (degree s j)) counts (and-left (ranges && counts) (ltb 0 (order s j) || s-zero) e) in
+    let t = four within ordered counts (ltb 0 (order s j) || s-zero) e in
+    let ends = both-ends 1 12 (degree s j) (t .0) in
     let small : (k : ℕ) → k < tideCount s → (q : ℕ) → q < 4 → natAbs (coefficient s j k q) ≤ 2 ^ 24 =
-    λ k h q g. leb-true (natAbs (coefficient s j k q)) (2 ^ 24) (all-at (λ i. leb (natAbs (coefficient s j k i)) (2 ^ 24)) 4 (all-at (countsValid s j) (tideCount s) (t .3) k h) q g) in
-    let both : order s j ≡ 0 → s-zero ≡ true = zonal (order s j) s-zero (and-right (ranges && counts) (ltb 0 (order s j) || s-zero) e) in
+    λ k h q g. leb-true (natAbs (coefficient s j k q)) (2 ^ 24) (all-at (λ i. leb (natAbs (coefficient s j k i)) (2 ^ 24)) 4 (all-at (countsValid s j) (tideCount s) (t .2) k h) q g) in
+    let both : order s j ≡ 0 → s-zero ≡ true = zonal (order s j) s-zero (t .3) in
     let a : ℕ → Bool = λ k. eqb (natAbs (coefficient s j k sCos)) 0 in
     let b : ℕ → Bool = λ k. eqb (natAbs (coefficient s j k sSin)) 0 in
     record {
-      degree-least = leb-true 1 (degree s j) (t .0);
-      degree-most = leb-true (degree s j) 12 (t .1);
-      order-most = leb-true (order s j) (degree s j) (t .2);
+      degree-least = ends .0;
+      degree-most = ends .1;
+      order-most = leb-true (order s j) (degree s j) (t .1);
       tide = λ k h. record {
         small = small k h;
         s-cos = λ z. zero-size (coefficient s j k sCos) (and-left (a k) (b k) (all-at (sZero s j) (tideCount s) (both z) k h));
@@ -112,6 +122,16 @@ ranked n m n′ m′ h e = by-test (ltb n n′) refl
         let d : n ≡ n′ = eqb-true n n′ (and-left (eqb n n′) (ltb m m′) r) in
         rw d (omega (arith, ltb-true m m′ (and-right (eqb n n′) (ltb m m′) r)))
 
+-- and the degree does not fall
+not-fallen : (n m n′ m′ : ℕ) → (ltb n n′ || eqb n n′ && ltb m m′) ≡ true → n ≤ n′
+not-fallen n m n′ m′ e = by-test (ltb n n′) refl
+  where
+    by-test : (b : Bool) → ltb n n′ ≡ b → n ≤ n′
+    by-test true l = omega (arith, ltb-true n n′ l)
+    by-test false l =
+        let r : (eqb n n′ && ltb m m′) ≡ true = subst (λ (b : Bool). (b || eqb n n′ && ltb m m′) ≡ true) l e in
+        omega (arith, eqb-true n n′ (and-left (eqb n n′) (ltb m m′) r))
+
 -- where place j of the sheet stands in a list
 abbrev pub index : List ℕ → ℕ → ℕ
 index s j = place (degree s j) (order s j)
@@ -122,6 +142,7 @@ pub record Accepted (s : List ℕ) : Type 0 where
   pub row : (k : ℕ) → k < tideCount s → weightTo (admittance s k) (lineCount s) ≤ 4000000
   pub places : (j : ℕ) → j < placeCount s → Place s j
   pub ascending : (j : ℕ) → j + 1 < placeCount s → index s j < index s (j + 1)
+  pub degrees : (j : ℕ) → j + 1 < placeCount s → degree s j ≤ degree s (j + 1)
 
 pub accepted : (s : List ℕ) → ownRefusal s ≡ 0 → Accepted s
 unfolding ownRefusal valid lineValid rowValid ascending precedes
@@ -138,6 +159,8 @@ accepted s e =
       ascending = λ j h.
           ranked (degree s j) (order s j) (degree s (j + 1)) (order s (j + 1)) (each j (omega arith) .order-most)
           (all-at (λ i. precedes s i (i + 1)) (placeCount s - 1) (t .3) j (omega arith));
+      degrees = λ j h.
+          not-fallen (degree s j) (order s j) (degree s (j + 1)) (order s (j + 1)) (all-at (λ i. precedes s i (i + 1)) (placeCount s - 1) (t .3) j (omega arith));
     }
 
 pub whole-of : {s : List ℕ} {l : Layout} → Passed s l → Whole s l
@@ -149,3 +172,23 @@ unfolding sheetRefusal reached
 accepted-for s n e =
     let p = first-none (ownRefusal s) (cond (reached s n) 0 9) e in
     (p .0, λ j h. leb-true (degree s j) n (all-at (λ i. leb (degree s i) n) (placeCount s) (kept (reached s n) 0 8 (p .1) .0) j h))
+
+-- the last place has the highest degree
+module _ {s : List ℕ} (A : Accepted s) where
+  up-to : (d j : ℕ) → j + d < placeCount s → degree s j ≤ degree s (j + d)
+  up-to zero j h = rw add-zero (omega arith)
+  up-to (suc d) j h =
+      let e : j + suc d ≡ j + d + 1 = omega arith in
+      rw e (omega (arith, up-to d j (omega arith), A .degrees (j + d) (omega arith)))
+
+  pub last-reached : (n : ℕ) → 0 < placeCount s → leb (degree s (placeCount s - 1)) n ≡ reached s n
+  unfolding reached
+  last-reached n h = same-test (leb (degree s (placeCount s - 1)) n) (allTo (λ j. leb (degree s j) n) (placeCount s)) all last
+    where
+      all : leb (degree s (placeCount s - 1)) n ≡ true → allTo (λ j. leb (degree s j) n) (placeCount s) ≡ true
+      all e = all-of (λ j. leb (degree s j) n) (placeCount s) (λ j l.
+          let i : j + (placeCount s - 1 - j) ≡ placeCount s - 1 = omega arith in
+          le-leb (degree s j) n (omega (arith, leb-true (degree s (placeCount s - 1)) n e, rw i at (up-to (placeCount s - 1 - j) j (omega arith)))))
+
+      last : allTo (λ j. leb (degree s j) n) (placeCount s) ≡ true → leb (degree s (placeCount s - 1)) n ≡ true
+      last e = all-at (λ j. leb (degree s j) n) (placeCount s) e (placeCount s - 1) (omega arith)

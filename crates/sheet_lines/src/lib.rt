@@ -1,19 +1,11 @@
 // The lines and the rows of a model sheet, tested (document 01, refusal 8).
 ghost use mathlib.Core.Path.{_≡_};
 ghost use Prim.Native.Nat.{_≤_, _<_};
-ghost use lib.Dec.{leb};
-ghost use lib.IntN.{natAbs};
 ghost use Rattle.whole.specs.Sum.{weightTo, allTo};
 ghost use Rattle.sheet.specs.Sheet.{lineCount, tideCount, admittance};
 ghost use Rattle.sheet.specs.Accepted.{lineValid, rowValid};
 ghost use Rattle.sheet.specs.Read.{Whole};
 use sheet::Layout;
-
-fn is_multiplier(x: i32) -> bool
-    ensures { λ r. ⌜ r ≡ leb (natAbs x) 13 ⌝ }
-{
-    (-13 <= x) & (x <= 13)
-}
 
 // Every multiplier of every line, in one pass over their bytes.
 pub fn are_lines(sheet: &[u8], l: Layout) -> bool
@@ -24,7 +16,7 @@ pub fn are_lines(sheet: &[u8], l: Layout) -> bool
     let mut good = true;
     let mut i: usize = 0;
     while i < multipliers {
-        good = good & is_multiplier(words::signed_byte_at(sheet, 2 + i));
+        good = good & limits::is_multiplier(words::signed_byte_at(sheet, 2 + i));
         i += 1;
     }
     good
@@ -54,7 +46,7 @@ pub fn are_rows(sheet: &[u8], l: Layout) -> bool
     let mut good = true;
     let mut k: usize = 0;
     while k < tides {
-        good = good & (row_total(sheet, l, k) <= 4000000);
+        good = good & limits::is_row_total(row_total(sheet, l, k));
         k += 1;
     }
     good

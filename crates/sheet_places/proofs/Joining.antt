@@ -8,9 +8,9 @@ use native.Mathlib.Nat.{eq-or-lt-of-le}
 use native.Mathlib.Omega.{arith}
 use borrow.Author.Tests.{le-leb}
 use lib.Bits.{bitOr}
-use lib.Dec.{leb}
 use lib.IntN.{natAbs}
 use Rattle.whole.specs.Sum.{allTo}
+use Rattle.limits.specs.Limits.{isCoefficient}
 use Rattle.words.specs.Words.{wordAt, twosComplement}
 use Rattle.words.proofs.Bits.{below-or}
 use Rattle.words.proofs.Signs.{raised-small}
@@ -44,5 +44,5 @@ by-tides s j at count e f =
     rw (e, f)
     (all-rows 4 words (tideCount s)
     ∙ all-same (λ k. allTo (λ q. words (4 * k + q)) 4) (countsValid s j) (tideCount s)
-    (λ k h. all-same (λ q. words (4 * k + q)) (λ q. leb (natAbs (coefficient s j k q)) (2 ^ 24)) 4
-    (λ q g. ap (λ (x : ℕ). leb (natAbs (twosComplement (2 ^ 31) (wordAt s x))) (2 ^ 24)) (omega arith))))
+    (λ k h. all-same (λ q. words (4 * k + q)) (λ q. isCoefficient (coefficient s j k q)) 4
+    (λ q g. ap (λ (x : ℕ). isCoefficient (twosComplement (2 ^ 31) (wordAt s x))) (omega arith))))

@@ -3,13 +3,12 @@ use mathlib.Core.Bool.{Bool, true}
 use mathlib.Core.List.{List}
 use mathlib.Core.Path.{_≡_}
 use Prim.Native.Nat.{ℕ, _+_, _*_, _^_, _<_}
-use lib.Dec.{leb}
-use lib.IntN.{natAbs}
+use Rattle.limits.specs.Limits.{isCoefficient}
 use Rattle.words.specs.Words.{wordAt, twosComplement}
 
 -- word i from a place on is a count in range
 unfoldable pub validAt : List ℕ → ℕ → ℕ → Bool
-validAt s at i = leb (natAbs (twosComplement (2 ^ 31) (wordAt s (at + 4 * i)))) (2 ^ 24)
+validAt s at i = isCoefficient (twosComplement (2 ^ 31) (wordAt s (at + 4 * i)))
 
 -- where all their bits together are below 2^25, each word is
 pub record Joined (s : List ℕ) (at count any : ℕ) : Type 0 where

@@ -1,8 +1,6 @@
 // The places of a model sheet, tested (document 01, refusal 8).
 ghost use mathlib.Core.Path.{_≡_};
-ghost use Prim.Native.Nat.{_+_, _*_, _^_, _≤_, _<_};
-ghost use lib.Dec.{leb};
-ghost use lib.IntN.{natAbs};
+ghost use Prim.Native.Nat.{_+_, _*_, _≤_, _<_};
 ghost use lib.ListN.{length};
 ghost use Rattle.whole.specs.Sum.{allTo};
 ghost use Rattle.sheet.specs.Sheet.{tideCount, placeCount};
@@ -11,16 +9,7 @@ ghost use Rattle.sheet.specs.Read.{Whole};
 ghost use Rattle.sheet_places.specs.Joined.{Joined, validAt};
 use sheet::Layout;
 
-// 2^24, the largest size of a count.
-const LIMIT: u32 = 16777216;
-
-fn is_coefficient(x: i64) -> bool
-    ensures { λ r. ⌜ r ≡ leb (natAbs x) (2 ^ 24) ⌝ }
-{
-    (-16777216 <= x) & (x <= 16777216)
-}
-
-// The bits of all the words from a place on, the limit added to each: below twice the limit, no word is out of range.
+// The bits of all the words from a place on, 2^24 added to each: below 2^25, no word is out of range.
 fn joined(sheet: &[u8], at: usize, count: usize) -> u32
     requires { ⌜ at + 4 * count ≤ length (now sheet) ⌝ }
     ensures { λ r. ⌜ Joined (now (sheet .entry)) at count r ⌝ }
@@ -28,7 +17,7 @@ fn joined(sheet: &[u8], at: usize, count: usize) -> u32
     let mut any: u32 = 0;
     let mut i: usize = 0;
     while i < count {
-        any = any | std::num::wrapping_add_u32(words::word_at(sheet, at + 4 * i), LIMIT);
+        any = any | std::num::wrapping_add_u32(words::word_at(sheet, at + 4 * i), 16777216);
         i += 1;
     }
     any
@@ -41,7 +30,7 @@ fn are_each(sheet: &[u8], at: usize, count: usize) -> bool
     let mut good = true;
     let mut i: usize = 0;
     while i < count {
-        good = good & is_coefficient(words::signed_at(sheet, at + 4 * i));
+        good = good & limits::is_coefficient(words::signed_at(sheet, at + 4 * i));
         i += 1;
     }
     good
@@ -54,7 +43,7 @@ fn are_counts(sheet: &[u8], l: Layout, j: usize) -> bool
 {
     let at = sheet::place_start(sheet, l, j) + 2;
     let count = 4 * l.tides;
-    if joined(sheet, at, count) < 2 * LIMIT {
+    if joined(sheet, at, count) < 33554432 {
         true
     } else {
         are_each(sheet, at, count)
@@ -84,7 +73,7 @@ fn is_place(sheet: &[u8], l: Layout, j: usize) -> bool
 {
     let degree = sheet::degree_at(sheet, l, j);
     let order = sheet::order_at(sheet, l, j);
-    let good = (1 <= degree) & (degree <= 12) & (order <= degree) & are_counts(sheet, l, j);
+    let good = limits::is_sheet_degree(degree) & (order <= degree) & are_counts(sheet, l, j);
     if 0 < order {
         good
     } else {

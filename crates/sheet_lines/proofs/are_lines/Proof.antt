@@ -5,9 +5,8 @@ use mathlib.Core.List.{List}
 use Prim.Native.Nat.{ℕ, _+_, _-_, _*_, _^_, _≤_}
 use native.Mathlib.Omega.{arith}
 use borrow.Author.Needs.{needs}
-use lib.Dec.{leb}
-use lib.IntN.{ℤ, natAbs}
 use mir.Syntax.{w32}
+use Rattle.limits.specs.Limits.{isMultiplier}
 use Rattle.words.specs.Words.{byteAt, twosComplement}
 use Rattle.whole.specs.Sum.{allTo}
 use Rattle.whole.proofs.Counted.{all-none, all-more}
@@ -20,15 +19,15 @@ use Rattle.sheet_lines.proofs.are_lines.Tie as tie
 
 -- byte i of the lines is a multiplier in range
 unfoldable byteValid : List ℕ → ℕ → Bool
-byteValid s i = leb (natAbs (twosComplement (2 ^ 7) (byteAt s (2 + i)))) 13
+byteValid s i = isMultiplier (twosComplement (2 ^ 7) (byteAt s (2 + i)))
 
 by-lines : (s : List ℕ) (n : ℕ) → allTo (byteValid s) (6 * n) ≡ allTo (lineValid s) n
 unfolding byteValid lineValid multiplier
 by-lines s n =
     all-rows 6 (byteValid s) n
     ∙ all-same (λ k. allTo (λ q. byteValid s (6 * k + q)) 6) (lineValid s) n
-    (λ k h. all-same (λ q. byteValid s (6 * k + q)) (λ q. leb (natAbs (multiplier s k q)) 13) 6
-    (λ q g. ap (λ (at : ℕ). leb (natAbs (twosComplement (2 ^ 7) (byteAt s at))) 13) (omega arith)))
+    (λ k h. all-same (λ q. byteValid s (6 * k + q)) (λ q. isMultiplier (multiplier s k q)) 6
+    (λ q g. ap (λ (at : ℕ). isMultiplier (twosComplement (2 ^ 7) (byteAt s at))) (omega arith)))
 
 abbrev Inv-loop : tie.InvT-loop
 Inv-loop sheet multipliers good₀ i₀ good i = (i ≤ multipliers) × (good ≡ allTo (byteValid sheet) i)
@@ -63,7 +62,7 @@ loop-again c =
     let l = c .before .before .before .loop in
     let s = c .before .before .before .before .before .before .args .sheet .now in
     let b = c .before .signed-byte-at in
-    let t = c .is-multiplier .ensures ∙ ap (λ (x : ℤ). leb (natAbs x) 13) (told w32 (b .ok) (b .ensures)) in
+    let t = c .is-multiplier .ensures ∙ ap isMultiplier (told w32 (b .ok) (b .ensures)) in
     (omega arith, all-more (byteValid s) (l .i) (l .inv .1) t)
 
 returns : tie.Need-returns Inv-loop μ-loop

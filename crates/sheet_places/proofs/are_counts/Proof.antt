@@ -42,9 +42,6 @@ mul-count c = omega (arith, inside (c .before))
 joined-requires : tie.Need-joined-requires
 joined-requires c κs = inside (c .before)
 
-mul-if1 : tie.Need-mul-if1
-mul-if1 c = search needs
-
 are-each-requires : tie.Need-are-each-requires
 are-each-requires c κs = inside (c .before .before .before)
 
@@ -64,7 +61,6 @@ are-counts-spec =
     add-at
     mul-count
     joined-requires
-    mul-if1
     are-each-requires
     returns
     returns-2)

@@ -1,11 +1,10 @@
 -- One flag takes every word in turn.
-use Prim.Native.Nat.{_-_, _^_, _≤_}
+use Prim.Native.Nat.{_-_, _≤_}
 use mathlib.Core.Path.{_≡_, ap, _∙_}
 use native.Mathlib.Omega.{arith}
 use borrow.Author.Needs.{needs}
-use lib.Dec.{leb}
-use lib.IntN.{ℤ, natAbs}
 use mir.Syntax.{w64}
+use Rattle.limits.specs.Limits.{isCoefficient}
 use Rattle.whole.specs.Sum.{allTo}
 use Rattle.whole.proofs.Counted.{all-none, all-more}
 use Rattle.sheet.proofs.Signs.{told}
@@ -46,7 +45,7 @@ loop-again c =
     let l = c .before .before .before .loop in
     let s = c .before .before .before .before .before .args in
     let v = c .before .signed-at in
-    let t = c .is-coefficient .ensures ∙ ap (λ (x : ℤ). leb (natAbs x) (2 ^ 24)) (told w64 (v .ok) (v .ensures .0)) in
+    let t = c .is-coefficient .ensures ∙ ap isCoefficient (told w64 (v .ok) (v .ensures .0)) in
     (omega arith, all-more (validAt (s .sheet .now) (s .at)) (l .i) (l .inv .1) t)
 
 returns : tie.Need-returns Inv-loop μ-loop

@@ -18,6 +18,9 @@ degree-at-requires c κs = search needs
 order-at-requires : tie.Need-order-at-requires
 order-at-requires c κs = search needs
 
+is-sheet-degree-requires : tie.Need-is-sheet-degree-requires
+is-sheet-degree-requires c κs = search needs
+
 are-counts-requires : tie.Need-are-counts-requires
 are-counts-requires c κs = search needs
 
@@ -28,15 +31,15 @@ returns : tie.Need-returns
 unfolding placeValid
 returns c =
     let k = c .before in
-    let o = k .before .order-at .ensures in
-    rw (k .before .before .degree-at .ensures, o, k .are-counts .ensures) (above _ _ _ (lt-ltb 0 _ (rw o at (c .if1 .taken))))
+    let o = k .before .before .order-at .ensures in
+    rw (k .before .is-sheet-degree .ensures, k .before .before .before .degree-at .ensures, o, k .are-counts .ensures) (above _ _ _ (lt-ltb 0 _ (rw o at (c .if1 .taken))))
 
 returns-2 : tie.Need-returns-2
 unfolding placeValid
 returns-2 c =
     let k = c .before .before in
-    let o = k .before .order-at .ensures in
-    rw (k .before .before .degree-at .ensures, o, k .are-counts .ensures, c .are-s-zero .ensures, le-ltb 0 _ (rw o at (c .before .if1 .left)))
+    let o = k .before .before .order-at .ensures in
+    rw (k .before .is-sheet-degree .ensures, k .before .before .before .degree-at .ensures, o, k .are-counts .ensures, c .are-s-zero .ensures, le-ltb 0 _ (rw o at (c .before .if1 .left)))
 
 pub is-place-spec : {M : Type 1} → statement M
-is-place-spec = tie.close (tie.spec degree-at-requires order-at-requires are-counts-requires are-s-zero-requires returns returns-2)
+is-place-spec = tie.close (tie.spec degree-at-requires order-at-requires is-sheet-degree-requires are-counts-requires are-s-zero-requires returns returns-2)
