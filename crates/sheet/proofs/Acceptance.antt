@@ -2,7 +2,7 @@
 use mathlib.Core.Path.{_≡_, refl, sym, ap, subst}
 use mathlib.Core.Bool.{Bool, true, false, cond, _&&_, _||_}
 use mathlib.Core.List.{List}
-use Prim.Native.Nat.{ℕ, zero, suc, _+_, _-_, _*_, _/_, _^_, _≤_, _<_}
+use Prim.Native.Nat.{ℕ, zero, suc, _+_, _-_, _^_, _≤_, _<_}
 use native.Mathlib.Nat.{add-zero, mul-le-mul}
 use native.Mathlib.Omega.{arith}
 use borrow.Author.Tests.{leb-true, ltb-true, eqb-true, le-leb}
@@ -12,7 +12,7 @@ use lib.ListN.{length}
 use Rattle.whole.specs.Sum.{weightTo, allTo}
 use Rattle.field.specs.Field.{place}
 use Rattle.whole.proofs.Tests.{and-left, and-right, both-ends}
-use Rattle.limits.specs.Limits.{isLineCount, isTideCount, isPlaceCount, isSheetDegree}
+use Rattle.limits.specs.Limits.{isLineCount, isTideCount, isPlaceCount, isMultiplier, isSheetDegree}
 use Rattle.sheet.specs.Sheet.{lineCount, tideCount, placeCount, sheetEnd, multiplier, admittance, degree, order, sCos, sSin, coefficient}
 use Rattle.sheet.specs.Accepted.{shaped, lineValid, rowValid, countsValid, sZero, placeValid, precedes, ascending, valid, reached, ownRefusal, sheetRefusal}
 use Rattle.sheet.specs.declared.Layout.{Layout}
@@ -108,33 +108,55 @@ place-of s j e =
       };
     }
 
--- by degree then order is by index, where orders are at most their degrees
-ranked : (n m n′ m′ : ℕ) → m ≤ n → (ltb n n′ || eqb n n′ && ltb m m′) ≡ true → place n m < place n′ m′
-unfolding place
-ranked n m n′ m′ h e = by-test (ltb n n′) refl
-  where
-    by-test : (b : Bool) → ltb n n′ ≡ b → n * (n + 1) / 2 + m < n′ * (n′ + 1) / 2 + m′
-    by-test true l =
-        let d : n + 1 ≤ n′ = omega (arith, ltb-true n n′ l) in
-        omega (arith, mul-le-mul d d)
-    by-test false l =
-        let r : (eqb n n′ && ltb m m′) ≡ true = subst (λ (b : Bool). (b || eqb n n′ && ltb m m′) ≡ true) l e in
-        let d : n ≡ n′ = eqb-true n n′ (and-left (eqb n n′) (ltb m m′) r) in
-        rw d (omega (arith, ltb-true m m′ (and-right (eqb n n′) (ltb m m′) r)))
+-- place i comes before place j, by degree then order
+pub data Before (s : List ℕ) (i j : ℕ) : Type 0 where
+  by-degree : degree s i < degree s j → Before s i j
+  by-order : degree s i ≡ degree s j → order s i < order s j → Before s i j
 
--- and the degree does not fall
-not-fallen : (n m n′ m′ : ℕ) → (ltb n n′ || eqb n n′ && ltb m m′) ≡ true → n ≤ n′
-not-fallen n m n′ m′ e = by-test (ltb n n′) refl
+before : (s : List ℕ) (i j : ℕ) → precedes s i j ≡ true → Before s i j
+unfolding precedes
+before s i j e = by-test (ltb (degree s i) (degree s j)) refl
   where
-    by-test : (b : Bool) → ltb n n′ ≡ b → n ≤ n′
-    by-test true l = omega (arith, ltb-true n n′ l)
+    by-test : (b : Bool) → ltb (degree s i) (degree s j) ≡ b → Before s i j
+    by-test true l = by-degree (ltb-true (degree s i) (degree s j) l)
     by-test false l =
-        let r : (eqb n n′ && ltb m m′) ≡ true = subst (λ (b : Bool). (b || eqb n n′ && ltb m m′) ≡ true) l e in
-        omega (arith, eqb-true n n′ (and-left (eqb n n′) (ltb m m′) r))
+        let same = eqb (degree s i) (degree s j) in
+        let less = ltb (order s i) (order s j) in
+        let r : (same && less) ≡ true = subst (λ (b : Bool). (b || same && less) ≡ true) l e in
+        by-order (eqb-true (degree s i) (degree s j) (and-left same less r)) (ltb-true (order s i) (order s j) (and-right same less r))
 
+pub record Valid (s : List ℕ) : Type 0 where
+  pub line : (f i : ℕ) → f < lineCount s → i < 6 → natAbs (multiplier s f i) ≤ 13
+  pub row : (k : ℕ) → k < tideCount s → weightTo (admittance s k) (lineCount s) ≤ 4000000
+  pub places : (j : ℕ) → j < placeCount s → Place s j
+  pub before : (j : ℕ) → j + 1 < placeCount s → Before s j (j + 1)
+
+pub values : (s : List ℕ) → valid s ≡ true → Valid s
+unfolding valid lineValid rowValid ascending
+values s e =
+    let t = four (allTo (lineValid s) (lineCount s)) (allTo (rowValid s) (tideCount s)) (allTo (placeValid s) (placeCount s)) (ascending s) e in
+    record {
+      line = λ f i h g. leb-true (natAbs (multiplier s f i)) 13 (all-at (λ q. isMultiplier (multiplier s f q)) 6 (all-at (lineValid s) (lineCount s) (t .0) f h) i g);
+      row = λ k h. leb-true (weightTo (admittance s k) (lineCount s)) 4000000 (all-at (rowValid s) (tideCount s) (t .1) k h);
+      places = λ j h. place-of s j (all-at (placeValid s) (placeCount s) (t .2) j h);
+      before = λ j h. before s j (j + 1) (all-at (λ i. precedes s i (i + 1)) (placeCount s - 1) (t .3) j (omega arith));
+    }
+
+-- ---- both
 -- where place j of the sheet stands in a list
 abbrev pub index : List ℕ → ℕ → ℕ
 index s j = place (degree s j) (order s j)
+
+-- by degree then order is by index, where orders are at most their degrees
+ranked : {s : List ℕ} {i j : ℕ} → order s i ≤ degree s i → Before s i j → index s i < index s j
+unfolding place
+ranked h (by-degree l) = omega (arith, mul-le-mul l l)
+ranked h (by-order e l) = rw e (omega arith)
+
+-- and the degree does not fall
+not-fallen : {s : List ℕ} {i j : ℕ} → Before s i j → degree s i ≤ degree s j
+not-fallen (by-degree l) = omega arith
+not-fallen (by-order e l) = omega arith
 
 pub record Accepted (s : List ℕ) : Type 0 where
   pub shape : Shape s
@@ -145,22 +167,17 @@ pub record Accepted (s : List ℕ) : Type 0 where
   pub degrees : (j : ℕ) → j + 1 < placeCount s → degree s j ≤ degree s (j + 1)
 
 pub accepted : (s : List ℕ) → ownRefusal s ≡ 0 → Accepted s
-unfolding ownRefusal valid lineValid rowValid ascending precedes
+unfolding ownRefusal
 accepted s e =
     let a = kept (shaped s) (cond (valid s) 0 8) 6 e in
-    let v = kept (valid s) 0 7 (a .1) in
-    let t = four (allTo (lineValid s) (lineCount s)) (allTo (rowValid s) (tideCount s)) (allTo (placeValid s) (placeCount s)) (ascending s) (v .0) in
-    let each : (j : ℕ) → j < placeCount s → Place s j = λ j h. place-of s j (all-at (placeValid s) (placeCount s) (t .2) j h) in
+    let v = values s (kept (valid s) 0 7 (a .1) .0) in
     record {
       shape = shape s (a .0);
-      line = λ f i h g. leb-true (natAbs (multiplier s f i)) 13 (all-at (λ q. leb (natAbs (multiplier s f q)) 13) 6 (all-at (lineValid s) (lineCount s) (t .0) f h) i g);
-      row = λ k h. leb-true (weightTo (admittance s k) (lineCount s)) 4000000 (all-at (rowValid s) (tideCount s) (t .1) k h);
-      places = each;
-      ascending = λ j h.
-          ranked (degree s j) (order s j) (degree s (j + 1)) (order s (j + 1)) (each j (omega arith) .order-most)
-          (all-at (λ i. precedes s i (i + 1)) (placeCount s - 1) (t .3) j (omega arith));
-      degrees = λ j h.
-          not-fallen (degree s j) (order s j) (degree s (j + 1)) (order s (j + 1)) (all-at (λ i. precedes s i (i + 1)) (placeCount s - 1) (t .3) j (omega arith));
+      line = v .line;
+      row = v .row;
+      places = v .places;
+      ascending = λ j h. ranked (v .places j (omega arith) .order-most) (v .before j h);
+      degrees = λ j h. not-fallen (v .before j h);
     }
 
 pub whole-of : {s : List ℕ} {l : Layout} → Passed s l → Whole s l

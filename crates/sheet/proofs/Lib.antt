@@ -2,3 +2,4 @@ pub mod Signs
 pub mod Offsets
 pub mod Flat
 pub mod Acceptance
+pub mod Table
