@@ -124,8 +124,8 @@ fn fill_rows(
     let mut k: usize = 0;
     while k < tides {
         let sums = row_sums(sheet, l, k, cosines, sines, cosine_total, sine_total);
-        of_cosines[k] = whole::nearest_million(sums.cosines);
-        of_sines[k] = whole::nearest_million(sums.sines);
+        of_cosines[k] = whole::nearest_of(sums.cosines, 1000000);
+        of_sines[k] = whole::nearest_of(sums.sines, 1000000);
         k += 1;
     }
 }
