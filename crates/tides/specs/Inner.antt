@@ -60,10 +60,10 @@ pub record Sized (e n : ℕ) (l : List ℤ) : Type 0 where
   pub each : (i : ℕ) → i < n → natAbs (listed l i) ≤ 2 ^ e
 
 -- the factors of all tides, from raised waves, and from the phases
-pub record Rowed (s : List ℕ) (C S : List ℕ) (ofC ofS : List ℤ) : Type 0 where
-  pub cosines : Lists (factor s (lowered C)) (tideCount s) ofC
-  pub sines : Lists (factor s (lowered S)) (tideCount s) ofS
+pub record Rowed (s : List ℕ) (C S : List ℕ) (F G : List ℤ) : Type 0 where
+  pub cosines : Lists (factor s (lowered C)) (tideCount s) F
+  pub sines : Lists (factor s (lowered S)) (tideCount s) G
 
-pub record Factored (s : List ℕ) (phases : Phases) (ofC ofS : List ℤ) : Type 0 where
-  pub cosines : Lists (fcos s phases) (tideCount s) ofC
-  pub sines : Lists (fsin s phases) (tideCount s) ofS
+pub record Factored (s : List ℕ) (phases : Phases) (F G : List ℤ) : Type 0 where
+  pub cosines : Lists (fcos s phases) (tideCount s) F
+  pub sines : Lists (fsin s phases) (tideCount s) G

@@ -112,11 +112,11 @@ fn fill_rows(
     l: Layout,
     cosines: &[u32; 128],
     sines: &[u32; 128],
-    of_cosines: &mut [i64; 32],
-    of_sines: &mut [i64; 32],
+    fcos: &mut [i64; 32],
+    fsin: &mut [i64; 32],
 )
-    requires { ⌜ WithWaves (now sheet) l (now cosines) (now sines) × ((length (now «of_cosines») ≡ 32) × (length (now «of_sines») ≡ 32)) ⌝ }
-    ensures { λ _. ⌜ Rowed (now (sheet .entry)) (now (cosines .entry)) (now (sines .entry)) (now («of_cosines» .exit)) (now («of_sines» .exit)) ⌝ }
+    requires { ⌜ WithWaves (now sheet) l (now cosines) (now sines) × ((length (now fcos) ≡ 32) × (length (now fsin) ≡ 32)) ⌝ }
+    ensures { λ _. ⌜ Rowed (now (sheet .entry)) (now (cosines .entry)) (now (sines .entry)) (now (fcos .exit)) (now (fsin .exit)) ⌝ }
 {
     let tides = l.tides;
     let cosine_total = total_of(l.lines, cosines);
@@ -124,8 +124,8 @@ fn fill_rows(
     let mut k: usize = 0;
     while k < tides {
         let sums = row_sums(sheet, l, k, cosines, sines, cosine_total, sine_total);
-        of_cosines[k] = whole::nearest_of(sums.cosines, 1000000);
-        of_sines[k] = whole::nearest_of(sums.sines, 1000000);
+        fcos[k] = whole::nearest_of(sums.cosines, 1000000);
+        fsin[k] = whole::nearest_of(sums.sines, 1000000);
         k += 1;
     }
 }
@@ -135,14 +135,14 @@ pub fn fill_factors(
     sheet: &[u8],
     l: Layout,
     phases: Phases,
-    of_cosines: &mut [i64; 32],
-    of_sines: &mut [i64; 32],
+    fcos: &mut [i64; 32],
+    fsin: &mut [i64; 32],
 )
-    requires { ⌜ Passed (now sheet) l × ((length (now «of_cosines») ≡ 32) × (length (now «of_sines») ≡ 32)) ⌝ }
-    ensures { λ _. ⌜ Factored (now (sheet .entry)) phases (now («of_cosines» .exit)) (now («of_sines» .exit)) ⌝ }
+    requires { ⌜ Passed (now sheet) l × ((length (now fcos) ≡ 32) × (length (now fsin) ≡ 32)) ⌝ }
+    ensures { λ _. ⌜ Factored (now (sheet .entry)) phases (now (fcos .exit)) (now (fsin .exit)) ⌝ }
 {
     let mut cosines = [0u32; 128];
     let mut sines = [0u32; 128];
     fill_waves(sheet, l.lines, phases, &mut cosines, &mut sines);
-    fill_rows(sheet, l, &cosines, &sines, of_cosines, of_sines);
+    fill_rows(sheet, l, &cosines, &sines, fcos, fsin);
 }

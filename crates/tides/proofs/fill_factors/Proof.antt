@@ -40,8 +40,7 @@ fill-waves-requires c κs = let p = c .before .before .before .pre .0 in (omega 
 
 fill-rows-requires : tie.Need-fill-rows-requires
 fill-rows-requires c κs =
-    let w = c .before .before .before .before in
-    (
+    let w = c .before .before .before .before in (
       record {
         passed = start w .pre .0;
         cosines = waves-bounded (sheet w) (cosine w) (λ f. cos-size (linePhase (sheet w) (start w .args .phases) f)) _ (cosines-raised w);

@@ -21,12 +21,12 @@ use Rattle.tides.proofs.fill_rows.Statement.{statement}
 use Rattle.tides.proofs.fill_rows.Tie as tie
 
 abbrev Inv-loop : tie.InvT-loop
-Inv-loop sheet l cosines sines of-cosines₀ of-sines₀ tides cosine-total sine-total k₀ of-cosines of-sines k =
-    (k ≤ tides) × (length of-cosines ≡ 32) × (length of-sines ≡ 32)
-    × Lists (factor sheet (lowered cosines)) k of-cosines × Lists (factor sheet (lowered sines)) k of-sines
+Inv-loop sheet l cosines sines fcos₀ fsin₀ tides cosine-total sine-total k₀ fcos fsin k =
+    (k ≤ tides) × (length fcos ≡ 32) × (length fsin ≡ 32)
+    × Lists (factor sheet (lowered cosines)) k fcos × Lists (factor sheet (lowered sines)) k fsin
 
 abbrev μ-loop : tie.MeasureT-loop
-μ-loop sheet l cosines sines of-cosines₀ of-sines₀ tides cosine-total sine-total k₀ of-cosines of-sines k = tides - k
+μ-loop sheet l cosines sines fcos₀ fsin₀ tides cosine-total sine-total k₀ fcos fsin k = tides - k
 
 lines-bounded : (c : tie.Start Inv-loop μ-loop) → (waves : List ℕ) → Bounded (lineCount (c .args .sheet .now)) waves → (c .args .l .lines ≤ 128) × Bounded (c .args .l .lines) waves
 lines-bounded c waves B =
@@ -78,17 +78,17 @@ module _ (c : tie.After-row-sums Inv-loop μ-loop) where
   sines-read : toZ w64 (ofZ w64 (c .row-sums .result .sines)) ≡ sumOf (start .args .sines .now)
   sines-read = read-back (c .row-sums .ensures .sines) (omega (arith, sines-small))
 
-nearest-million-requires : tie.Need-nearest-million-requires Inv-loop μ-loop
-nearest-million-requires c κs = rw (cosines-read (c .before)) (cosines-small (c .before))
+nearest-of-requires : tie.Need-nearest-of-requires Inv-loop μ-loop
+nearest-of-requires c κs = (omega arith, rw (cosines-read (c .before)) (omega (arith, cosines-small (c .before))))
 
-element-set-from-of-sines : tie.Need-element-set-from-of-sines Inv-loop μ-loop
-element-set-from-of-sines c = below (c .before .before)
+element-set-from-fsin : tie.Need-element-set-from-fsin Inv-loop μ-loop
+element-set-from-fsin c = below (c .before .before)
 
-nearest-million-requires-2 : tie.Need-nearest-million-requires-2 Inv-loop μ-loop
-nearest-million-requires-2 c κs = let r = c .before .before .before in rw (sines-read r) (sines-small r)
+nearest-of-requires-2 : tie.Need-nearest-of-requires-2 Inv-loop μ-loop
+nearest-of-requires-2 c κs = let r = c .before .before .before in (omega arith, rw (sines-read r) (omega (arith, sines-small r)))
 
-element-set-from-of-sines-2 : tie.Need-element-set-from-of-sines-2 Inv-loop μ-loop
-element-set-from-of-sines-2 c = below (c .before .before .before .before)
+element-set-from-fsin-2 : tie.Need-element-set-from-fsin-2 Inv-loop μ-loop
+element-set-from-fsin-2 c = below (c .before .before .before .before)
 
 loop-again : tie.Need-loop-again Inv-loop μ-loop
 unfolding factor
@@ -99,8 +99,8 @@ loop-again c =
       omega arith,
       simp length-set (l .inv .1),
       simp length-set (l .inv .2),
-      lists-more _ (l .k) (l .of-cosines) (l .inv .3) (omega (arith, below r)) (told w64 (c .before .before .nearest-million .ok) (c .before .before .nearest-million .ensures ∙ ap near (cosines-read r))),
-      lists-more _ (l .k) (l .of-sines) (l .inv .4) (omega (arith, below r)) (told w64 (c .nearest-million2 .ok) (c .nearest-million2 .ensures ∙ ap near (sines-read r))),
+      lists-more _ (l .k) (l .fcos) (l .inv .3) (omega (arith, below r)) (told w64 (c .before .before .nearest-of .ok) (c .before .before .nearest-of .ensures ∙ ap near (cosines-read r))),
+      lists-more _ (l .k) (l .fsin) (l .inv .4) (omega (arith, below r)) (told w64 (c .nearest-of2 .ok) (c .nearest-of2 .ensures ∙ ap near (sines-read r))),
     )
 
 returns : tie.Need-returns Inv-loop μ-loop
@@ -114,6 +114,6 @@ pub fill-rows-spec : {M : Type 1} → statement M
 fill-rows-spec =
     tie.close
     (tie.spec Inv-loop μ-loop total-of-requires total-of-requires-2 loop-holds row-sums-requires
-    nearest-million-requires (λ c. omega (arith, below (c .before .before))) element-set-from-of-sines
-    nearest-million-requires-2 (λ c. omega (arith, below (c .before .before .before .before))) element-set-from-of-sines-2
+    nearest-of-requires (λ c. omega (arith, below (c .before .before))) element-set-from-fsin
+    nearest-of-requires-2 (λ c. omega (arith, below (c .before .before .before .before))) element-set-from-fsin-2
     (λ c. search needs) (λ c. search needs) loop-again returns)
