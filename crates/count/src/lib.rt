@@ -4,7 +4,8 @@ ghost use Prim.Native.Nat.{_+_, _-_, _/_, _%_, _^_, _≤_, _<_};
 ghost use lib.IntN.{pos, natAbs};
 ghost use lib.Dec.{T};
 ghost use lib.Ieee.{binary64, ofBits};
-ghost use Rattle.count.specs.Count.{count, countable};
+ghost use Rattle.limits.specs.Limits.{isCountable};
+ghost use Rattle.count.specs.Count.{count};
 
 const SIGN: u64 = 9223372036854775808;
 
@@ -38,15 +39,8 @@ fn nearest_of_bits(b: u64) -> i64
 }
 
 pub fn nearest_count(x: f64) -> i64
-    requires { ⌜ T (countable x) ⌝ }
+    requires { ⌜ T (isCountable x) ⌝ }
     ensures { λ r. ⌜ r ≡ count x ⌝ }
 {
     nearest_of_bits(f64::to_bits(x))
-}
-
-// Whether x is strictly between -2^52 and 2^52, which no NaN is.
-pub fn is_countable(x: f64) -> bool
-    ensures { λ b. ⌜ b ≡ countable x ⌝ }
-{
-    (-4503599627370496.0 < x) & (x < 4503599627370496.0)
 }

@@ -8,19 +8,20 @@ use Rattle.arguments.specs.declared.Phases.{Phases}
 use Rattle.bodies.specs.declared.Body.{Body}
 use Rattle.choices.specs.declared.Frame.{Frame}
 use Rattle.choices.specs.declared.LoveModel.{LoveModel}
-use Rattle.corrections.specs.Corrections.{corrections}
 use Rattle.field.specs.Field.{fieldRefusal}
 use Rattle.refusals.specs.Outcome.{firstOf}
 use Rattle.refusals.proofs.Outcomes.{outcome-number, refused-untouched}
 use Rattle.ocean.specs.Ocean.{oceanRefusal, oceanTide}
-use Rattle.step_one.specs.StepOne.{refusalOf, stepOne}
+use Rattle.refusals.specs.Told.{toldNumber}
+use Rattle.solid_one.specs.SolidOne.{stepOne}
+use Rattle.step_one.specs.StepOne.{corrections}
 use Rattle.step_two.specs.StepTwo.{stepTwo}
 
 module _ (n : ℕ) (c s : List ℤ) where
   -- 1, 2, then what refuses the Moon, the Sun or a correction
-  pub step-one-number : (moon sun : Body) (love : LoveModel) → stepOne n c s moon sun love .number ≡ firstOf (fieldRefusal n c s) (refusalOf (corrections moon sun love))
+  pub step-one-number : (moon sun : Body) (love : LoveModel) → stepOne n c s moon sun love .number ≡ firstOf (fieldRefusal n c s) (toldNumber (corrections moon sun love))
   unfolding stepOne
-  step-one-number moon sun love = outcome-number (firstOf (fieldRefusal n c s) (refusalOf (corrections moon sun love))) c s _ _
+  step-one-number moon sun love = outcome-number (firstOf (fieldRefusal n c s) (toldNumber (corrections moon sun love))) c s _ _
 
   pub step-one-untouched : (moon sun : Body) (love : LoveModel) → (stepOne n c s moon sun love .number ≡ 0 → ⊥)
       → (stepOne n c s moon sun love .c ≡ c) × (stepOne n c s moon sun love .s ≡ s)

@@ -8,7 +8,7 @@ ghost use Rattle.refusals.specs.Outcome.{Gives};
 ghost use Rattle.lines.specs.Lines.{findLine, tells as tellsSought};
 ghost use Rattle.ocean.specs.Ocean.{oceanTide};
 ghost use Rattle.permanent.specs.Systems.{movedC20, tells as tellsMoved};
-ghost use Rattle.step_one.specs.StepOne.{stepOne};
+ghost use Rattle.solid_one.specs.SolidOne.{stepOne};
 ghost use Rattle.step_two.specs.StepTwo.{stepTwo};
 use arguments::Multipliers;
 use arguments::Phases;
@@ -36,7 +36,7 @@ pub fn step_one(
 ) -> Answer
     ensures { λ r. ⌜ Gives (stepOne n (now (c .entry)) (now (s .entry)) moon sun love) (answerNumber r) (now (c .exit)) (now (s .exit)) ⌝ }
 {
-    step_one::step_one(n, c, s, moon, sun, love)
+    solid_one::step_one(n, c, s, moon, sun, love)
 }
 
 // Solid tide, step two (001, Tables 6.2; document 01, "Step two").
