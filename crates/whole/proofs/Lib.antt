@@ -2,9 +2,11 @@ pub mod Tests
 pub mod Parts
 pub mod Ring
 pub mod Machine
+pub mod Signs
 pub mod Floor
 pub mod Rounding
 pub mod Sums
+pub mod Bits
 pub mod Counted
 pub mod Running
 pub mod Within
