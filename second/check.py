@@ -7,6 +7,7 @@ from itertools import product
 from math import asin, atan2, cos, factorial, hypot, inf, ldexp, nan, nextafter, sin, sqrt
 from random import Random
 
+import telling
 import tides as t
 
 rng = Random(19960621)
@@ -198,6 +199,34 @@ def sines():
     expect('phases', t.exact_sine(1 << 28), sum((-1)**k * r**(2 * k + 1) / factorial(2 * k + 1) for k in range(6)))
     expect('phases', t.exact_cosine(1 << 28), sum((-1)**k * r**(2 * k) / factorial(2 * k) for k in range(7)))
     return hardest
+
+
+def recipe(by_cosine, a, numbers):
+    """S(a) or C(a) with the recipe's numbers as they are given: the angle's factor, the halves that x, y and g are rounded with, the 2 of the
+    last rounding, then each divisor with the half that its step is rounded with."""
+    factor, x_half, y_half, g_half, two, *steps = numbers
+    x = (a * factor + x_half) >> 31
+    y = (x * x + y_half) >> 32
+    h = 1 << 32
+    for d, half in zip(steps[::2], steps[1::2]):
+        h = (1 << 32) - (y * h + half * d) // (d << 32)
+    return ((h if by_cosine else (x * h + g_half) >> 32) + two) // 4
+
+
+def wave_slips():
+    """The recipe told from each with one number changed, by a stored phase: factor, divisors and the 2 by one, halves dropped or nearly doubled."""
+    angles = [t.eighth_of(phase)[2] for phase in telling.WAVE_PHASES]
+    for by_cosine, divisors in ((False, (110, 72, 42, 20, 6)), (True, (132, 90, 56, 30, 12, 2))):
+        right = [13493037705, 1 << 30, 1 << 31, 1 << 31, 2, *(number for d in divisors for number in (d, 1 << 31))]
+        answers = [recipe(by_cosine, a, right) for a in angles]
+        expect('waves', answers, [t.sine(a + t.UNIT * by_cosine) for a in angles])
+        slips = [(i, wrong) for i, number in enumerate(right)
+                 for wrong in ((0, 2 * number - 1) if number in (1 << 30, 1 << 31) else (number - 1, number + 1))]
+        # g is the sine's alone; and of all 2^29 angles none tells the rounding up of the cosine's first step
+        unseen = [(3, 0), (3, (1 << 32) - 1), (6, (1 << 32) - 1)] if by_cosine else []
+        for i, wrong in slips:
+            told = answers != [recipe(by_cosine, a, [*right[:i], wrong, *right[i + 1:]]) for a in angles]
+            expect('waves', told, (i, wrong) not in unseen)
 
 
 # --- Fields, step two and permanent systems ---
@@ -467,6 +496,7 @@ def main():
     cases()
     doodson()
     hardest = sines()
+    wave_slips()
     fields()
     step_two()
     permanent()
