@@ -204,7 +204,12 @@ static size_t sheet(uint8_t *out)
     case 3: length -= one_in(2) ? 1 : below(length); break;
     case 4: out[length++] = 0; break;
     case 5: if (lines) out[2 + below(6 * lines)] = one_in(2) ? 14 : (uint8_t)-14; break;
-    case 6: if (lines && tides) { uint8_t *w = out + 4 + 6 * lines + 4 * below(lines * tides); put32(w, one_in(2) ? 4000001 : model_word(w) + 1); } break;
+    case 6:
+        if (lines && tides) {
+            uint8_t *w = out + 4 + 6 * lines + 4 * below(lines * tides);
+            put32(w, one_in(2) ? 4000001 : model_word(w) + 1);
+        }
+        break;
     case 7: if (put && tides) put32(count + 4 + 4 * below(4 * tides), one_in(2) ? (1 << 24) + 1 : -(1 << 24) - 1); break;
     case 8: if (put) count[2 + (2 + 16 * tides) * below(put)] = (uint8_t)below(15); break;
     case 9: if (put) count[3 + (2 + 16 * tides) * below(put)] = (uint8_t)below(15); break;

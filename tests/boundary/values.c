@@ -73,7 +73,8 @@ static void expect(int call, uint32_t answer, uint32_t number, int as_told)
     answered[call][number]++;
     if (answer == number && as_told) return;
     if (differences++ < 20)
-        printf("%s, case %ld: answered %" PRIu32 ", told %" PRIu32 "%s\n", names[call], cases, answer, number, as_told ? "" : ", and an entry or a guard differs");
+        printf("%s, case %ld: answered %" PRIu32 ", told %" PRIu32 "%s\n", names[call], cases, answer, number,
+               as_told ? "" : ", and an entry or a guard differs");
 }
 
 static size_t sheet(uint8_t *bytes)
