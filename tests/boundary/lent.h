@@ -16,6 +16,9 @@ typedef struct {
 
 static int64_t *entries(lent *l) { return l->all + GUARD; }
 
+/* as lent to a call: of length 0 a null pointer is welcome */
+static int64_t *or_null(lent *l) { return l->length ? entries(l) : NULL; }
+
 static void lend(lent *l, size_t length)
 {
     l->length = length;

@@ -1,4 +1,4 @@
-/* The unit's calls in plain C, written from the description alone: what the fuzz run and the bench hold the archive to.
+/* The unit's calls in plain C, written from the description alone: what the fuzz run holds the archive to.
  * Whole numbers throughout, doubles only in step one, each operation rounded once (compile with -ffp-contract=off). */
 #ifndef MODEL_H
 #define MODEL_H
@@ -285,7 +285,7 @@ static uint32_t model_layout(const uint8_t *b, size_t length, model_sheet *t)
     return t->places <= 90 && length == at + t->places * (2 + 16 * t->tides) ? 0 : 7;
 }
 
-/* no early end: a sheet is nearly always right, and without branches the tests go several values at a time */
+/* whether every value, every row's total and the order of the places is right */
 static int model_values(const model_sheet *t)
 {
     size_t wide = 2 + 16 * t->tides;

@@ -73,7 +73,8 @@ static void expect(int call, uint32_t answer, uint32_t number, int as_told)
     answered[call][number]++;
     if (answer == number && as_told) return;
     if (differences++ < 20)
-        printf("%s, case %ld: answered %" PRIu32 ", told %" PRIu32 "%s\n", names[call], cases, answer, number, as_told ? "" : ", and an entry or a guard differs");
+        printf("%s, case %ld: answered %" PRIu32 ", told %" PRIu32 "%s\n", names[call], cases, answer, number,
+               as_told ? "" : ", and an entry or a guard differs");
 }
 
 static size_t sheet(uint8_t *bytes)
@@ -94,14 +95,14 @@ static void over_field(int call)
     uint32_t choice = (uint32_t)word(), number, answer;
     if (call == STEP_ONE) {
         surfgimlet_body moon = body(), sun = body();
-        answer = surfgimlet_step_one(n, entries(&c), c.length, entries(&s), s.length, moon, sun, choice);
+        answer = surfgimlet_step_one(n, or_null(&c), c.length, or_null(&s), s.length, moon, sun, choice);
     } else if (call == STEP_TWO) {
         surfgimlet_phases b = phases();
-        answer = surfgimlet_step_two(n, entries(&c), c.length, entries(&s), s.length, b, choice);
+        answer = surfgimlet_step_two(n, or_null(&c), c.length, or_null(&s), s.length, b, choice);
     } else {
         surfgimlet_phases b = phases();
         size_t length = sheet(bytes);
-        answer = surfgimlet_ocean_tide(n, entries(&c), c.length, entries(&s), s.length, bytes, length, b, choice);
+        answer = surfgimlet_ocean_tide(n, or_null(&c), c.length, or_null(&s), s.length, length ? bytes : NULL, length, b, choice);
     }
     number = (uint32_t)word();
     change(&told_c); change(&told_s);

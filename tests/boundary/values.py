@@ -142,8 +142,9 @@ def numbers():
     for _ in range(300):
         yield 'number_of', *map(chance.between, lowest, highest)
         yield 'number_of', *(chance.between(low - chance.one_in(9), high + chance.one_in(9)) for low, high in zip(lowest, highest))
+    ends = [sign * (g.EDGE + d) for sign in (1, -1) for d in (-1, 0, 1)]
     for have, want, love in product(range(3), range(3), range(2)):
-        for c20 in (0, 1, -484165143790, *(s * (g.EDGE + d) for s in (1, -1) for d in (-1, 0, 1)), g.LEAST_64, -1 - g.LEAST_64, chance.between(-g.EDGE, g.EDGE)):
+        for c20 in (0, 1, -484165143790, *ends, g.LEAST_64, -1 - g.LEAST_64, chance.between(-g.EDGE, g.EDGE)):
             yield 'move_c20', c20, have, want, love
             number, (moved,) = alone('move_c20', c20, have, want, love)
             if number == 0:
@@ -293,11 +294,11 @@ def layouts():
     yield field, [some_ocean(good), some_ocean(good[:-1]), some_ocean(good)]
     yield field, [some_ocean(good[:cut]) for cut in range(len(good))]
     yield field, [some_ocean(good + longer) for longer in (b'\0', b'\xff', good)]
-    for at, wrong in zip((0, 14, 40), ((0, 1, 3, 128, 129, 258, 65535), (0, 1, 2, 4, 32, 33, 259, 65535), (0, 2, 4, 90, 91, 259, 65535)), strict=True):
-        yield field, [some_ocean(good[:at] + struct.pack('<H', count) + good[at + 2:]) for count in wrong]
+    for at, count in product((0, 14, 40), (0, 1, 2, 3, 4, 32, 33, 90, 91, 128, 129, 258, 259, 65535)):
+        yield field, [some_ocean(good[:at] + struct.pack('<H', count) + good[at + 2:])]
     wide = g.varied_field(chance, 13)
-    for shape in [(0, 1, 0), (0, 2, 1), (1, 0, 0), (1, 0, 1), (0, 0, 0), (1, 1, 0), (1, 1, 1), (128, 1, 1), (129, 1, 0), (129, 1, 1), (1, 32, 1), (1, 33, 0),
-                  (1, 33, 1), (128, 33, 1), (129, 32, 1), (1, 1, 90), (1, 1, 91), (1, 1, 92), (2, 3, 91), (128, 32, 90), (129, 33, 91), (256, 1, 1), (1, 256, 0)]:
+    shapes = [*product((0, 1, 128, 129), (0, 1, 32, 33), (0, 1)), *product((1, 2), (1, 3), (90, 91, 92))]
+    for shape in [*shapes, (128, 32, 90), (129, 33, 91), (256, 1, 1), (1, 256, 0)]:
         yield wide, [some_ocean(g.shaped_sheet(*shape))]
     for count, _ in product((0, 1, 2, 10, 20, 40, 80, 120), range(6)):
         yield field, [some_ocean(chance.bytes(count))]
@@ -336,15 +337,34 @@ def synthesis():
         yield g.any_field(chance, chance.between(4, 14)), calls
     for sizes in ((128, 1, 90), (40, 2, 90), (128, 32, 0), (1, 32, 2), (128, 4, 10), (128, 32, 90)):
         yield g.any_field(chance, 60), either(ocean_tide, g.write_sheet(*g.sheet(chance, *sizes)), g.phases(chance))
-    data = g.write_sheet([(1, 0, 0, 0, 0, 0), (-13, 0, 0, 0, 0, 13)], [[1_000_000, 3_000_000]], [(3, 3, [(1 << 24, 1, -1, -(1 << 24))])])
+    two = [(1, 0, 0, 0, 0, 0), (-13, 0, 0, 0, 0, 13)]
+    data = g.write_sheet(two, [[1_000_000, 3_000_000]], [(3, 3, [(1 << 24, 1, -1, -(1 << 24))])])
     for k, d in product(range(8), (-1, 0, 1)):                          # the edges of the eighths
         yield ZEROS, either(ocean_tide, data, ((k << 29) + d & g.U32, 0, 0, 0, 0, k << 29))
     for place, multiplier in product(range(6), range(-13, 14)):         # each multiplier at each argument
         data = g.write_sheet([g.spoilt(g.NONE, place, multiplier)], [[1_000_000]], [(2, 1, [(1 << 24, 0, 0, 1 << 24)])])
         yield ZEROS, [ocean_tide(data, g.phases(chance), 0)]
-    for admittance, phase in product((500_000, -500_000, 1_500_000, -2_500_000), (5, 6, 7, 0, 1 << 30, 1 << 31, 3 << 30)):     # ties of both roundings
+    for admittance, phase in product((500_000, -500_000, 1_500_000, -2_500_000), (5, 6, 7, 0, 1 << 30, 1 << 31, 3 << 30)):     # ties
         data = g.write_sheet([(1, 0, 0, 0, 0, 0)], [[admittance]], [(2, 1, [(1 << 24, 1, 3, 1 << 24)]), (2, 2, [(1, 3, -1, -3)])])
         yield ZEROS, [ocean_tide(data, (phase, 0, 0, 0, 0, 0), 0)]
+
+
+def wave_of(value, counts):
+    """A millionth of a wave of this many units, as the sine that C21 takes and the cosine that S21 takes, by each pair of counts for C and S."""
+    at = telling.sine_phase(value)
+    if at is not None:
+        data = g.write_sheet([(1, 0, 0, 0, 0, 0), (0, 1, 0, 0, 0, 0)], [[1, 0], [0, 1]] * len(counts),
+                             [(2, 1, [quad for c, s in counts for quad in ((0, 0, c, 0), (0, s, 0, 0))])])
+        yield ZEROS, [ocean_tide(data, (at % t.TURN, (at - t.UNIT) % t.TURN, 0, 0, 0, 0), 0)]
+
+
+def ocean_ties():
+    """Both roundings of the ocean tide at a tie, and one unit before it: that of the sums over lines, then that of the sums over tides."""
+    for factor, rest in product(range(-23, 24, 4), (499_999, 500_000)):                             # a quarter of the factor is added: 1/4, or 2/4
+        yield from wave_of(factor * t.MILLION + rest, [(1 << 24, 1 << 24)] * 16)
+    for factor, count in ((233, 2304167), (256, 1 << 21), (177, -3033169), (256, -(1 << 21))):      # 2^29 - 1, 2^29, -2^29 - 1, -2^29
+        for near in range(4):
+            yield from wave_of(factor * t.MILLION + near, [(count, count)])
 
 
 def waves():
@@ -370,9 +390,10 @@ def cases():
     """Every case, the calls that tell most before the others."""
     yield from printed()
     yield from numbers()
-    for call in (step_one(*g.GOOD, 1), step_two((1, 2, 3, 4, 5, 6), 1), ocean_tide(g.write_sheet(*g.SMALL[:2], g.SMALL[2][:2]), (6, 5, 4, 3, 2, 1), 0)):
+    low = g.write_sheet(*g.SMALL[:2], g.SMALL[2][:2])                   # its places of degree 1 alone
+    for call in (step_one(*g.GOOD, 1), step_two((1, 2, 3, 4, 5, 6), 1), ocean_tide(low, (6, 5, 4, 3, 2, 1), 0)):
         yield from fields(call)
-    for part in (bodies, body_edges, bounds_of_six, ordinary_bodies, halves, lines, layouts, sheet_values, synthesis, waves):
+    for part in (bodies, body_edges, bounds_of_six, ordinary_bodies, halves, lines, layouts, sheet_values, synthesis, ocean_ties, waves):
         yield from part()
 
 
