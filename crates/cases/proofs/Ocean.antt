@@ -12,8 +12,7 @@ use Rattle.refusals.specs.Outcome.{firstOf, unlessRefused}
 use Rattle.ocean.specs.Ocean.{dC, dS, oceanRefusal, oceanTide}
 use Rattle.places.specs.Places.{placeSum, skipped, unlessSkipped, correction, added}
 use Rattle.sheet.specs.Accepted.{shaped, lineValid, rowValid, countsValid, sZero, placeValid, precedes, ascending, valid, reached, ownRefusal, sheetRefusal}
-use Rattle.sheet.specs.Read.{multipliers}
-use Rattle.sheet.specs.Sheet.{lineCount, tideCount, placeCount, multiplier, admittance, degree, order, coefficient}
+use Rattle.sheet.specs.Sheet.{lineCount, tideCount, placeCount, multiplier, multipliers, admittance, degree, order, coefficient}
 use Rattle.tides.specs.Tides.{lineSum, factor, fcos, fsin}
 use Rattle.wave.specs.Wave.{folded, part, signed, eighths, further, angle, square, step, steps, eighth-sine, eighth-cosine, sin, cos}
 use Rattle.whole.specs.Nearest.{nearest}

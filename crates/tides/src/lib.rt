@@ -4,7 +4,7 @@ ghost use mathlib.Core.Path.{_≡_};
 ghost use Prim.Native.Nat.{_+_, _*_, _^_, _≤_, _<_};
 ghost use lib.IntN.{pos, natAbs, _+ℤ_, _-ℤ_};
 ghost use lib.ListN.{length};
-ghost use Rattle.sheet.specs.Read.{Passed};
+ghost use Rattle.sheet.specs.Inner.{Passed};
 ghost use Rattle.sheet.specs.Sheet.{lineCount, tideCount};
 ghost use Rattle.tides.specs.Inner.{Waved, Bounded, total, WithWaves, Summed, Rowed, Factored};
 use arguments::Phases;
