@@ -12,7 +12,7 @@ use Rattle.refusals.specs.Outcome.{Outcome}
 use Rattle.lines.specs.Lines.{Found}
 use Rattle.ocean.specs.Ocean.{oceanTide}
 use Rattle.permanent.specs.Systems.{movedC20}
-use Rattle.step_one.specs.StepOne.{stepOne}
+use Rattle.solid_one.specs.SolidOne.{stepOne}
 use Rattle.step_two.specs.StepTwo.{stepTwo}
 use Rattle.boundary.specs.declared.GivenBody.{GivenBody}
 use Rattle.boundary.specs.declared.GivenPhases.{GivenPhases}

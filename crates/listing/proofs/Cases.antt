@@ -9,9 +9,10 @@ use Rattle.arguments.specs.Phase.{modulo, phase}
 use Rattle.choices.specs.declared.LoveModel.{LoveModel}
 use Rattle.choices.specs.declared.LoveModel.the-variants.{Elastic, Anelastic}
 use Rattle.doodson.specs.Doodson.{multipliersIn}
-use Rattle.lines.specs.Lines.{diurnal, longPeriod, semidiurnal, printed, lineAt, multipliersAt}
+use Rattle.bands.specs.Bands.{ofDiurnal, ofLongPeriod, ofSemidiurnal, ofBand, term}
+use Rattle.lines.specs.Lines.{diurnal, longPeriod, semidiurnal, printed, lineAt, multipliersAt, bandAt, inModel, printedLine}
 use Rattle.step_two.specs.declared.Corrections.{Corrections}
-use Rattle.step_two.specs.StepTwo.{inCounts, columnOf, sumC20, sumC21, sumS21, sumC22, sumS22, corrections}
+use Rattle.step_two.specs.StepTwo.{sumOf, correctionOf, correction, corrections}
 use Rattle.wave.specs.Wave.{sin, cos, further, eighths, signed, part, folded, eighth-sine, eighth-cosine, steps, step, square, angle}
 use Rattle.whole.specs.Nearest.{nearest}
 use Rattle.whole.specs.Sum.{sumTo}
@@ -29,7 +30,7 @@ pub record Worked : Type 0 where
   pub quarter-turn : at-tau (2 ^ 30) Anelastic ≡ record { c20 = pos 10100; c21 = pos 450100; s21 = pos 0; c22 = pos 1500; s22 = pos 0 }
 
 pub worked : Worked
-unfolding modulo phase multipliersIn diurnal longPeriod semidiurnal printed lineAt multipliersAt inCounts columnOf sumC20 sumC21 sumS21 sumC22 sumS22 corrections sin cos further eighths signed part folded eighth-sine eighth-cosine steps step square angle nearest sumTo
+unfolding modulo phase multipliersIn diurnal longPeriod semidiurnal printed lineAt multipliersAt bandAt inModel printedLine ofDiurnal ofLongPeriod ofSemidiurnal ofBand term sumOf correctionOf correction corrections sin cos further eighths signed part folded eighth-sine eighth-cosine steps step square angle nearest sumTo
 worked = record { elastic = refl; anelastic = refl; quarter-turn = refl }
 
 -- P7: "Zeros give the following whole output"

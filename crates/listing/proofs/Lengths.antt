@@ -11,8 +11,8 @@ use lib.Seq.{sets-eq}
 use Rattle.arguments.specs.declared.Phases.{Phases}
 use Rattle.choices.specs.declared.LoveModel.the-variants.{Elastic, Anelastic}
 use Rattle.step_two.specs.declared.Corrections.{Corrections}
-use Rattle.step_two.specs.Room.{Small}
-use Rattle.step_two.proofs.Bands.{corrections-small}
+use Rattle.step_two.specs.Inner.{Small}
+use Rattle.step_two.proofs.Sizes.{corrections-small}
 use Rattle.listing.specs.Text.{ascii}
 use Rattle.listing.specs.Listing.{phasesOf, line, lines, listingOf, Listed}
 use Rattle.listing.specs.Put.{Put}
