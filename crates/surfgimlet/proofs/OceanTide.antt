@@ -1,4 +1,4 @@
--- What a call has that nothing refuses.
+-- What an ocean tide has that nothing refuses.
 use mathlib.Core.List.{List}
 use mathlib.Core.Path.{_≡_, sym, subst}
 use Prim.Native.Nat.{ℕ, _<_}
@@ -10,8 +10,8 @@ use Rattle.refusals.proofs.Outcomes.{first-none}
 use Rattle.sheet.specs.Accepted.{ownRefusal, sheetRefusal}
 use Rattle.sheet.specs.Sheet.{placeCount, degree, order}
 use Rattle.sheet.proofs.Acceptance.{accepted, accepted-for, index}
 use Rattle.ocean.specs.Inner.{Wide}
-use Rattle.ocean.specs.Ocean.{oceanRefusal}
+use Rattle.surfgimlet.specs.Calls.{oceanRefusal}
 
 pub passing : (n : ℕ) (c s : List ℤ) (sheet : List ℕ) → oceanRefusal n c s sheet ≡ 0 → (ownRefusal sheet ≡ 0) × (Wide sheet c × Wide sheet s)
 unfolding oceanRefusal
