@@ -4,7 +4,7 @@ import struct
 from collections import Counter
 from fractions import Fraction
 from itertools import product
-from math import atan2, cos, factorial, hypot, inf, ldexp, nan, nextafter, sin, sqrt
+from math import atan2, cos, factorial, hypot, inf, nan, nextafter, sin, sqrt
 
 import given
 import telling
@@ -256,9 +256,8 @@ def permanent():
 
 def sheet_faults():
     """Faults set one at a time and in pairs; the lowest number answers."""
-    lines, rows = [(0,) * 6, (13, -13, 0, 0, 0, 1)], [[4_000_000, 0], [-2_000_000, 2_000_000], [1, -1]]
-    places = [(1, 0, [(1 << 24, 0, -(1 << 24), 0)] * 3), (1, 1, [(1, 2, 3, 4)] * 3), (5, 0, [(0,) * 4] * 3)]
-    good = write_sheet(lines, rows, places)
+    lines, rows, places = given.SMALL
+    good, zero = write_sheet(lines, rows, places), [(0,) * 4]
 
     def refuse(number, data, N=5):
         expect('sheet', t.sheet_test(data, N), (number, None))
@@ -278,31 +277,14 @@ def sheet_faults():
     for at, wrong in zip(counts_at, ((0, 129, 3, 65535), (0, 33, 2, 4, 65535), (91, 2, 4, 65535)), strict=True):
         for count in wrong:
             refuse(7, good[:at] + struct.pack('<H', count) + good[at + 2:])
-    refuse(7, write_sheet([], rows, places))
-    refuse(7, write_sheet([(0,) * 6] * 129, [[0] * 129], []))
-    refuse(7, write_sheet(lines, [], []))
-    refuse(7, write_sheet(lines, [[0, 0]] * 33, []))
-    refuse(7, write_sheet(lines, rows, [(1, 1, [(0,) * 4] * 3)] * 91))
-
-    bad_lines = [[(0,) * i + (v,) + (0,) * (5 - i), lines[1]] for i in range(6) for v in (14, -14, 127, -128)]
-    bad_rows = [[[4_000_000, 1]], [[-2_000_000, 2_000_001]], [[-(1 << 31), 0]], [[0, 0], [-(1 << 31), -(1 << 31)]]]
-    zero = [(0,) * 4]
-    bad_places = [
-        [(0, 0, zero)], [(13, 0, zero)], [(255, 255, zero)], [(2, 3, zero)], [(0, 1, zero)], [(2, 2, zero), (2, 2, zero)],
-        [(2, 2, zero), (2, 1, zero)], [(3, 0, zero), (2, 2, zero)], [(3, 0, [(0, 1, 0, 0)])], [(3, 0, [(0, 0, 0, -1)])]]
-    too_large = (1 << 24) + 1, -(1 << 24) - 1, -(1 << 31), (1 << 31) - 1
-    bad_places += [[(2, 2, [(0,) * i + (v,) + (0,) * (3 - i)])] for i in range(4) for v in too_large]
-    for wrong in bad_lines:
-        refuse(8, write_sheet(wrong, rows, places))
-        refuse(8, write_sheet(wrong, rows, places), N=4)                        # 8 before 9
-        refuse(7, write_sheet(wrong, rows, places) + b'\1')                     # 7 before 8
-    for wrong in bad_rows:
-        refuse(8, write_sheet(lines, wrong, []))
-        refuse(7, write_sheet(lines, wrong, [])[:-1])
-    for wrong in bad_places:
-        refuse(8, write_sheet(lines, [[0, 0]], wrong))
-        refuse(8, write_sheet(lines, [[0, 0]], wrong + [(12, 12, zero)]), N=4)
-        refuse(7, write_sheet(lines, [[0, 0]], wrong)[:-1])
+    for shape in ((0, 1, 1), (129, 1, 0), (1, 0, 1), (1, 33, 1), (1, 1, 91), (129, 33, 91)):
+        refuse(7, given.shaped_sheet(*shape), N=13)
+    for lines_, rows_, places_ in given.faulty_sheets():
+        data = write_sheet(lines_, rows_, places_)
+        refuse(8, data, N=12)
+        refuse(8, data, N=4)                                                    # 8 before 9
+        refuse(7, data + b'\1')                                                 # 7 before 8
+        refuse(7, data[:-1])
     for N in range(4, 13):
         data = write_sheet(lines, [[0, 0]], [(N, N, zero)])
         expect('sheet', t.sheet_test(data, N)[0], 0)
@@ -389,71 +371,45 @@ def step_one_refusals():
         expect('step one', got, number)
         assert got == 0 or (C, S) == field
 
-    def spoilt(body, **parts):
-        ratio, (kind, *numbers) = body
-        for name, value in parts.items():
-            if name == 'ratio':
-                ratio = value
-            else:
-                numbers['uvwr'.index(name)] = value
-        return ratio, (kind, *numbers)
-
-    ups = [SUN, (0.5, (t.RECTANGULAR, 0.0, -0.0, -1e8, 1e8))]
-    threes = [spoilt(b, **{name: bad}) for b in ups for name in ('ratio', *'uvwr') for bad in (nan, inf, -inf)]
-    fours = [spoilt(b, r=r) for b in ups for r in (nextafter(1e8, 0), nextafter(1e12, inf), 0.0, -0.0, -1e9, 5e-324, 1.7e308)]
-    fours += [spoilt(b, ratio=ratio) for b in ups for ratio in (0.0, -0.0, -1.0, nextafter(1e6, inf), 1.7e308)]
-    fives = [spoilt(b, w=w) for b in ups for w in (0.0, 1e308, -1.7e308, 5e-324, 0.5)]
-    fives += [spoilt(SUN, u=1.7e308, v=-1.7e308, w=1.7e308), spoilt(SUN, w=nextafter(0.8, 1) + 1e-12)]
-    for number, faults in ((3, threes), (4, fours), (5, fives)):
-        for fault in faults:
-            answer(number, fault, SUN)
-            answer(number, MOON, fault)
-            answer(number, fault, chance.one(*threes))                          # a faulty Sun never comes before the Moon
-            expect('step one', t.step_one(3, *field, fault, fault, t.ELASTIC), (1, *field))
-            expect('step one', t.step_one(4, [1 << 62] * 15, field[1], fault, fault, t.ELASTIC), (2, [1 << 62] * 15, field[1]))
-    answer(3, spoilt(SUN, ratio=-1.0, w=nan), SUN)                              # 3 before 4 before 5 of one body
-    answer(3, spoilt(SUN, r=1.0, u=inf), SUN)
-    answer(4, spoilt(SUN, r=1.0, u=7.0), SUN)
+    faults = given.faulty_bodies()
+    for number, fault in faults:
+        answer(number, fault, SUN)
+        answer(number, MOON, fault)
+        answer(number, fault, chance.one(*faults)[1])                           # a faulty Sun never comes before the Moon
+        expect('step one', t.step_one(3, *field, fault, fault, t.ELASTIC), (1, *field))
+        expect('step one', t.step_one(4, [1 << 62] * 15, field[1], fault, fault, t.ELASTIC), (2, [1 << 62] * 15, field[1]))
+    for number, first, second in ((3, (0, -1.0), (3, nan)), (3, (4, 1.0), (1, inf)), (4, (4, 1.0), (1, 7.0))):
+        answer(number, given.spoilt_body(given.spoilt_body(SUN, *first), *second), SUN)     # 3 before 4 before 5 of one body
 
     answer(0, MOON, SUN)
     for r, ratio in product((1e8, 1e12), (5e-324, 1e-300, 1.0)):                # bounds pass, and the tiniest ratio
         answer(0, (ratio, (t.DIRECTION, 0.0, 0.0, 1.0, r)), (ratio, (t.RECTANGULAR, -r, 0.0, -0.0, r)))
     answer(0, (1e6, (t.DIRECTION, 5e-324, 0.0, 1.0, 1e12)), SUN)
-    for w in (1.0 + ldexp(1.0, -41), 1.0 - ldexp(1.0, -41)):                    # unit test: bounds themselves pass
-        answer(0, (1.0, (t.DIRECTION, 0.0, 0.0, w, 1e9)), SUN)
-    for w in (nextafter(1.0 + ldexp(1.0, -41), 2), nextafter(1.0 - ldexp(1.0, -41), 0)):
-        answer(5, (1.0, (t.DIRECTION, 0.0, 0.0, w, 1e9)), SUN)
+    for end, beyond in ((1.0 + t.TINY, 2.0), (1.0 - t.TINY, 0.0)):              # length one: the ends themselves pass
+        answer(0, (1.0, (t.DIRECTION, *telling.at_length_one(chance, end), 1e9)), SUN)
+        answer(5, (1.0, (t.DIRECTION, *telling.at_length_one(chance, nextafter(end, beyond)), 1e9)), SUN)
     for u, v, w in ((0.6, 0.0, 0.8), (0.0, 0.0, 1.0), (1.0, 0.0, 0.0), (0.0, -0.6, -0.8)):
         near = (1e6, (t.DIRECTION, u, v, w, 1e8))
         answer(6, near, SUN)
         answer(6, SUN, near)
-        answer(5, near, fives[0])
+        answer(5, near, given.spoilt_body(SUN, 3, 0.5))
     bound_of_six()
 
 
 def bound_of_six():
-    """The Moon's ratio at which refusal 6 begins: bisected, and the products on both sides looked at."""
-    for love in LOVES:
-        low, high = 1.0, 1e6
-        sun = (5e-324, SUN[1])
-        moon = lambda ratio: (ratio, (t.DIRECTION, 0.0, 0.6, 0.8, 1e8))
-        while nextafter(low, inf) < high:
-            middle = (low + high) / 2
-            if t.step_one_corrections(moon(middle), sun, love)[0]:
-                high = middle
-            else:
-                low = middle
-        largest = lambda ratio: max(abs(x) for pair in t.step_one_products(moon(ratio), sun, love).values() for x in pair)
-        expect('step one', t.step_one_corrections(moon(low), sun, love)[0], 0)
-        expect('step one', t.step_one_corrections(moon(high), sun, love)[0], 6)
-        expect('step one', largest(low) < 2**52 <= largest(high), True)
-        expect('step one', all(dS == 0 for (n, m), (_, dS) in t.step_one_products(moon(high), sun, love).items() if m == 0), True)
+    """Each coefficient of degree 2 at 2^52 and at -2^52, refused, and half a count inside, where it passes."""
+    for coefficient, love, sign in product(telling.COEFFICIENTS[:5], LOVES, (1, -1)):
+        for size, number in ((t.COUNT_BOUND, 6), (t.COUNT_BOUND - 0.5, 0)):
+            bodies = telling.at_the_bound(chance, coefficient, love, sign * size)
+            expect('step one', t.step_one_corrections(*bodies, love)[0], number)
+            expect('step one', telling.product_of(coefficient, *bodies, love), sign * size)
+            expect('step one', all(dS == 0 for (n, m), (_, dS) in t.step_one_products(*bodies, love).items() if m == 0), True)
 
 
 def day():
     """The worked day: its counts were made with doubles, apart from this program."""
     number, corrections = t.step_one_corrections(*telling.DAY_BODIES, t.ANELASTIC)
-    expect('day', (number, {(n, m): counts for n, m, *counts in corrections if n == 2}), (0, telling.DAY_STEP_ONE))
+    expect('day', (number, {(n, m): both for n, m, *both in corrections if n == 2}), (0, telling.DAY_STEP_ONE))
     expect('day', t.step_two_corrections(telling.DAY_PHASES, t.ANELASTIC), telling.DAY_STEP_TWO)
 
 

@@ -4,7 +4,7 @@ A slip in step one's order of operations moves a product by a last bit or two. T
 of a product that is a whole number and a half, or the float next to such a one, does.
 """
 
-from math import asin, floor, inf, ldexp, nextafter, sqrt
+from math import asin, floor, inf, nextafter, sqrt
 
 import tides as t
 from given import placed
@@ -104,7 +104,7 @@ def sine_phase(value):
 
 
 def tie_phases():
-    """Six phases for each of S22, C22, C21, S21 and C20 and either sign, at which its sum, elastic or anelastic, is a whole number and a half.
+    """Six phases at which the sum for S22, C22, C21, S21 or C20 is a whole number and a half, of either sign, elastic and anelastic.
 
     300, 450700 and 450100 are 4 times an odd number, so that a sine or cosine of 2^27 times an odd number makes a tie.
     """

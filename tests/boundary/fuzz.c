@@ -136,21 +136,39 @@ static surfgimlet_body body(double far, double ratio)
     return b;
 }
 
-/* two near bodies whose largest product is 2^52 counts, or half a count less */
+/* the masses changed until the product at i, C of the ten places and then S, is the goal, or after a few steps nearly so */
+static void move_to(surfgimlet_body *moon, surfgimlet_body *sun, uint32_t love, int i, double goal)
+{
+    double d[20];
+    for (int step = 0; step < 10; step++) {
+        if (model_products(*moon, *sun, love & 1, d, d + 10) || d[i] == goal || d[i] == 0) return;
+        if (step == 0) { moon->ratio *= goal / d[i]; sun->ratio *= goal / d[i]; }
+        else moon->ratio = fabs(d[i]) < fabs(goal) ? away(moon->ratio) : nextafter(moon->ratio, 0);
+    }
+}
+
+/* two near bodies whose largest product is 2^52 counts, or half a count less, of either sign */
 static void to_the_bound(surfgimlet_body *moon, surfgimlet_body *sun, uint32_t love)
 {
-    double goal = one_in(2) ? 0x1p52 : 0x1p52 - 0.5, dc[10], ds[10], largest;
+    double d[20];
+    int largest = 0;
     moon->kind = sun->kind = 1;
     moon->ratio = sun->ratio = 1;
     moon->r = 1e8 * (1 + 0.2 * unit()); sun->r = 1e8 * (1 + 0.2 * unit());
-    for (int i = 0; i < 10; i++) {
-        if (model_products(*moon, *sun, love & 1, dc, ds)) return;
-        largest = 0;
-        for (int j = 0; j < 10; j++) largest = fmax(largest, fmax(fabs(dc[j]), fabs(ds[j])));
-        if (largest == goal) return;
-        if (i == 0) { moon->ratio *= goal / largest; sun->ratio *= goal / largest; }
-        else moon->ratio = largest < goal ? away(moon->ratio) : nextafter(moon->ratio, 0);
-    }
+    if (model_products(*moon, *sun, love & 1, d, d + 10)) return;
+    for (int i = 1; i < 20; i++)
+        if (fabs(d[i]) > fabs(d[largest])) largest = i;
+    move_to(moon, sun, love, largest, copysign(one_in(2) ? 0x1p52 : 0x1p52 - 0.5, d[largest]));
+}
+
+/* a product that is a whole number and a half, or the float next below: there one rounding more or less shows in the count */
+static void to_a_half(surfgimlet_body *moon, surfgimlet_body *sun, uint32_t love)
+{
+    double d[20], half;
+    int i = (int)below(20);
+    if (model_products(*moon, *sun, love & 1, d, d + 10)) return;
+    half = floor(d[i]) + 0.5;
+    move_to(moon, sun, love, i, one_in(2) ? half : nextafter(half, -INFINITY));
 }
 
 static uint8_t *put16(uint8_t *at, uint64_t x) { at[0] = (uint8_t)x; at[1] = (uint8_t)(x >> 8); return at + 2; }
@@ -257,6 +275,7 @@ static void over_field(int call)
     } else if (call == STEP_ONE) {
         surfgimlet_body moon = body(3.8e8, 0.0123), sun = body(1.5e11, 332946);
         uint32_t love = choice(2);
+        if (one_in(2)) to_a_half(&moon, &sun, love);
         if (one_in(10)) to_the_bound(&moon, &sun, love);
         answer = surfgimlet_step_one(n, or_null(&c), c.length, or_null(&s), s.length, moon, sun, love);
         told = model_step_one(n, entries(&c2), c2.length, entries(&s2), s2.length, moon, sun, love);
