@@ -1,5 +1,5 @@
 -- Each entry after step two on a field that is not refused: five moved by their corrections, every other as before.
-use mathlib.Core.Path.{_≡_}
+use mathlib.Core.Path.{_≡_, ap, _∙_}
 use mathlib.Core.List.{List}
 use mathlib.Core.Logic.{_⊎_, inl, inr}
 use Prim.Native.Nat.{ℕ, _≤_, _<_}
@@ -38,6 +38,10 @@ module _ (l : List ℤ) (d : Corrections) where
   s-other k (inl h) = at-elsewhere placesS (forS d) l k (λ j b e. omega (arith, s-run j b))
   s-other k (inr h) = at-elsewhere placesS (forS d) l k (λ j b e. omega (arith, s-run j b))
 
+-- an entry of a list that an equation gives
+read : {l m : List ℤ} → l ≡ m → (k : ℕ) → at l k ≡ at m k
+read e k = ap (λ (x : List ℤ). at x k) e
+
 module _ (n : ℕ) (c s : List ℤ) (phases : Phases) (love : LoveModel) (passed : fieldRefusal n c s ≡ 0) where
   c-is : stepTwo n c s phases love .c ≡ addedAt placesC (forC (corrections phases love)) c
   unfolding stepTwo unlessRefused
@@ -54,12 +58,12 @@ module _ (n : ℕ) (c s : List ℤ) (phases : Phases) (love : LoveModel) (passed
       let d = corrections phases love in
       let in-c = c-entry c d (degree-two n c (a .least) (a .c-size)) in
       let in-s = s-entry s d (degree-two n s (a .least) (a .s-size)) in
-      rw (c-is, s-is) (record {
-        c20 = in-c 0 (omega arith);
-        c21 = in-c 1 (omega arith);
-        s21 = in-s 0 (omega arith);
-        c22 = in-c 2 (omega arith);
-        s22 = in-s 1 (omega arith);
-        c-elsewhere = c-other c d;
-        s-elsewhere = s-other s d;
-      })
+      record {
+        c20 = read c-is _ ∙ in-c 0 (omega arith);
+        c21 = read c-is _ ∙ in-c 1 (omega arith);
+        s21 = read s-is _ ∙ in-s 0 (omega arith);
+        c22 = read c-is _ ∙ in-c 2 (omega arith);
+        s22 = read s-is _ ∙ in-s 1 (omega arith);
+        c-elsewhere = λ k h. read c-is k ∙ c-other c d k h;
+        s-elsewhere = λ k h. read s-is k ∙ s-other s d k h;
+      }
