@@ -30,4 +30,3 @@ unfoldable pub stepTwo : ℕ → List ℤ → List ℤ → Phases → LoveModel 
 stepTwo n c s phases love =
     let d = lineCorrections phases love in
     unlessRefused (fieldRefusal n c s) c s (addedAt placesC (forC d) c) (addedAt placesS (forS d) s)
-
