@@ -17,15 +17,15 @@ use Rattle.wave.specs.Wave.{sin, cos}
 use Rattle.wave.proofs.Size.{sin-size, cos-size}
 use Rattle.hour.specs.Inner.{isUsed, kept}
 use Rattle.hour.proofs.Kept.{kept-more, chosen-size, wave-fits, wave-stored}
-use Rattle.hour.proofs.waves_of.Statement.{statement}
-use Rattle.hour.proofs.waves_of.Tie as tie
+use Rattle.hour.proofs.fill_waves.Statement.{statement}
+use Rattle.hour.proofs.fill_waves.Tie as tie
 
 -- what is kept of line i, of its sines or of its cosines
 abbrev value : (ℕ → ℤ) → Phases → LoveModel → ℕ → ℤ
 value W phases love i = cond (isUsed love i) (W (linePhase phases i)) (pos 0)
 
 abbrev Inv-loop : tie.InvT-loop
-Inv-loop phases love digits cosines₀ sines₀ i₀ cosines sines i =
+Inv-loop phases love cosines₀ sines₀ digits i₀ cosines sines i =
     (i ≤ 49)
     × (length cosines ≡ 49)
     × (length sines ≡ 49)
@@ -33,10 +33,10 @@ Inv-loop phases love digits cosines₀ sines₀ i₀ cosines sines i =
     × ((j : ℕ) → j < i → kept sines j ≡ value sin phases love j)
 
 abbrev μ-loop : tie.MeasureT-loop
-μ-loop phases love digits cosines₀ sines₀ i₀ cosines sines i = 49 - i
+μ-loop phases love cosines₀ sines₀ digits i₀ cosines sines i = 49 - i
 
 loop-holds : tie.Need-loop-holds Inv-loop μ-loop
-loop-holds c = (omega arith, search needs, search needs, (λ j h. absurd (omega arith)), (λ j h. absurd (omega arith)))
+loop-holds c = let p = c .before .before .pre in (omega arith, p .0, p .1, (λ j h. absurd (omega arith)), (λ j h. absurd (omega arith)))
 
 -- a turn, once the line's wave is known
 module _ (c : tie.After-wave-by Inv-loop μ-loop) where
@@ -96,8 +96,8 @@ returns c =
     let e : l .i ≡ 49 = omega arith in
     record { cosines = λ j h. l .inv .3 j (omega arith); sines = λ j h. l .inv .4 j (omega arith) }
 
-pub waves-of-spec : {M : Type 1} → statement M
-waves-of-spec =
+pub fill-waves-spec : {M : Type 1} → statement M
+fill-waves-spec =
     tie.close
     (tie.spec
     Inv-loop
