@@ -1,7 +1,7 @@
--- Every entry after a call that nothing refuses: a place of the sheet has its correction added, every other entry is as before, and so is S(n,0).
-use mathlib.Core.List.{List}
+-- Every entry once a sheet's corrections are added: a place of the sheet has its own, every other entry is as before, and so is S(n,0).
 use mathlib.Core.Bool.{Bool, true, false}
-use mathlib.Core.Path.{_≡_, refl, sym, ap, subst, _∙_}
+use mathlib.Core.List.{List}
+use mathlib.Core.Path.{_≡_, refl, sym, ap, _∙_}
 use Prim.Native.Nat.{ℕ, zero, suc, _≤_, _<_}
 use native.Mathlib.Omega.{arith}
 use borrow.Author.Tests.{eqb-true, eqb-false}
@@ -10,20 +10,16 @@ use lib.IntN.{ℤ, pos, _+ℤ_, +ℤ-idr}
 use lib.ListN.{length, getD}
 use Rattle.arguments.specs.declared.Phases.{Phases}
 use Rattle.choices.specs.declared.Frame.{Frame}
-use Rattle.field.specs.Field.{place, fieldRefusal}
-use Rattle.refusals.specs.Outcome.{unlessRefused}
-use Rattle.field.proofs.Accepted.{accepted-field, place-below}
-use Rattle.refusals.proofs.Outcomes.{first-none}
 use Rattle.field.specs.Added.{corrected, added}
-use Rattle.field.proofs.Entries.{corrected-here, corrected-elsewhere}
+use Rattle.field.specs.Field.{place}
 use Rattle.field.proofs.Added.{added-length, added-here, added-elsewhere}
+use Rattle.field.proofs.Entries.{corrected-here, corrected-elsewhere}
 use Rattle.places.specs.Places.{indexOf}
 use Rattle.places.proofs.Zonal.{no-correction, zonal-place}
-use Rattle.sheet.specs.Accepted.{sheetRefusal}
 use Rattle.sheet.specs.Sheet.{placeCount, order}
-use Rattle.sheet.proofs.Acceptance.{Accepted, accepted}
-use Rattle.ocean.specs.Ocean.{dC, dS, oceanRefusal, oceanTide}
-use Rattle.ocean.proofs.Passing.{passing}
+use Rattle.sheet.proofs.Acceptance.{Accepted}
+use Rattle.ocean.specs.Inner.{Wide}
+use Rattle.ocean.specs.Ocean.{dS}
 use Rattle.ocean.proofs.Rises.{rises}
 
 -- an entry is as it was where each of the first n places that stands there is corrected by zero
@@ -43,52 +39,23 @@ module _ (at : ℕ → ℕ) (d : ℕ → ℤ) (l : List ℤ) where
           ∙ before
       by-test before false e = corrected-elsewhere (added at d n l) (at n) (d n) k (eqb-false k (at n) e) ∙ before
 
-module _ (n : ℕ) (c s : List ℤ) (sheet : List ℕ) (phases : Phases) (frame : Frame) (e : oceanRefusal n c s sheet ≡ 0) where
-  good : Accepted sheet
-  good = accepted sheet (passing n c s sheet e .0)
+-- of an accepted sheet and a list that has its places, for any corrections
+module _ {sheet : List ℕ} (A : Accepted sheet) (d : ℕ → ℤ) {l : List ℤ} (W : Wide sheet l) where
+  pub here : (j : ℕ) → j < placeCount sheet → getD (added (indexOf sheet) d (placeCount sheet) l) (indexOf sheet j) (pos 0) ≡ getD l (indexOf sheet j) (pos 0) +ℤ d j
+  here j h = added-here (indexOf sheet) d l (placeCount sheet) (rises A (placeCount sheet) (omega arith)) j h (W .has j h)
 
-  c-is : oceanTide n c s sheet phases frame .c ≡ added (indexOf sheet) (dC sheet phases frame) (placeCount sheet) c
-  unfolding oceanTide unlessRefused
-  c-is = rw e
+  pub elsewhere : (k : ℕ) → ((j : ℕ) → j < placeCount sheet → k ≡ indexOf sheet j → ⊥) → getD (added (indexOf sheet) d (placeCount sheet) l) k (pos 0) ≡ getD l k (pos 0)
+  elsewhere k h = added-elsewhere (indexOf sheet) d l (placeCount sheet) k h
 
-  s-is : oceanTide n c s sheet phases frame .s ≡ added (indexOf sheet) (dS sheet phases frame) (placeCount sheet) s
-  unfolding oceanTide unlessRefused
-  s-is = rw e
-
-  field-passed : fieldRefusal n c s ≡ 0
-  unfolding oceanRefusal
-  field-passed = first-none (fieldRefusal n c s) (sheetRefusal sheet n) e .0
-
-  -- an entry of a list that an equation gives
-  read : {l m : List ℤ} → l ≡ m → (at : ℕ) → getD l at (pos 0) ≡ getD m at (pos 0)
-  read q at = ap (λ (x : List ℤ). getD x at (pos 0)) q
-
-  pub c-here : (j : ℕ) → j < placeCount sheet
-      → getD (oceanTide n c s sheet phases frame .c) (indexOf sheet j) (pos 0) ≡ getD c (indexOf sheet j) (pos 0) +ℤ dC sheet phases frame j
-  c-here j h =
-      read c-is (indexOf sheet j) ∙ added-here (indexOf sheet) (dC sheet phases frame) c (placeCount sheet) (rises good (placeCount sheet) (omega arith)) j h (passing n c s sheet e .1 .0 .has j h)
-
-  pub s-here : (j : ℕ) → j < placeCount sheet
-      → getD (oceanTide n c s sheet phases frame .s) (indexOf sheet j) (pos 0) ≡ getD s (indexOf sheet j) (pos 0) +ℤ dS sheet phases frame j
-  s-here j h =
-      read s-is (indexOf sheet j) ∙ added-here (indexOf sheet) (dS sheet phases frame) s (placeCount sheet) (rises good (placeCount sheet) (omega arith)) j h (passing n c s sheet e .1 .1 .has j h)
-
-  pub c-elsewhere : (at : ℕ) → ((j : ℕ) → j < placeCount sheet → at ≡ indexOf sheet j → ⊥) → getD (oceanTide n c s sheet phases frame .c) at (pos 0) ≡ getD c at (pos 0)
-  c-elsewhere at h = read c-is at ∙ added-elsewhere (indexOf sheet) (dC sheet phases frame) c (placeCount sheet) at h
-
-  pub s-elsewhere : (at : ℕ) → ((j : ℕ) → j < placeCount sheet → at ≡ indexOf sheet j → ⊥) → getD (oceanTide n c s sheet phases frame .s) at (pos 0) ≡ getD s at (pos 0)
-  s-elsewhere at h = read s-is at ∙ added-elsewhere (indexOf sheet) (dS sheet phases frame) s (placeCount sheet) at h
-
-  -- the S counts of order 0 are zero, and no other place stands there
+-- "S(n,0) is never changed": the S counts of order 0 are zero, and no other place stands there
+module _ {sheet : List ℕ} (A : Accepted sheet) (phases : Phases) (frame : Frame) where
   zonal-dS : (j : ℕ) → j < placeCount sheet → order sheet j ≡ 0 → dS sheet phases frame j ≡ pos 0
   unfolding dS
   zonal-dS j h z =
-      no-correction sheet _ _ _ _ j (λ k g. good .places j h .tide k g .s-cos z) (λ k g. good .places j h .tide k g .s-sin z) frame
+      no-correction sheet _ _ _ _ j (λ k g. A .places j h .tide k g .s-cos z) (λ k g. A .places j h .tide k g .s-sin z) frame
 
-  pub s-zonal : (m : ℕ) → m ≤ n → getD (oceanTide n c s sheet phases frame .s) (place m 0) (pos 0) ≡ getD s (place m 0) (pos 0)
-  s-zonal m h =
-      let long : place m 0 < length s =
-      subst (λ (k : ℕ). place m 0 < k) (sym (accepted-field n c s field-passed .s-size)) (place-below n m 0 h (omega arith)) in
-      read s-is (place m 0)
-      ∙ added-kept (indexOf sheet) (dS sheet phases frame) s (place m 0) (placeCount sheet) long
-      (λ j g q. zonal-dS j g (zonal-place m _ (order sheet j) (good .places j g .order-most) q))
+  pub zonal : (s : List ℤ) (m : ℕ) → place m 0 < length s
+      → getD (added (indexOf sheet) (dS sheet phases frame) (placeCount sheet) s) (place m 0) (pos 0) ≡ getD s (place m 0) (pos 0)
+  zonal s m long =
+      added-kept (indexOf sheet) (dS sheet phases frame) s (place m 0) (placeCount sheet) long
+      (λ j g q. zonal-dS j g (zonal-place m _ (order sheet j) (A .places j g .order-most) q))

@@ -9,9 +9,9 @@ use lib.IntN.{ℤ, pos, natAbs, _+ℤ_, _-ℤ_, _*ℤ_, *ℤ-comm, zero-*ℤ}
 use lib.ListN.{getD}
 use Rattle.arguments.specs.declared.Phases.{Phases}
 use Rattle.choices.specs.declared.Frame.{Frame}
-use Rattle.ocean.specs.Ocean.{dC, dS, oceanRefusal, oceanTide}
-use Rattle.ocean.proofs.Entries.{c-here, s-here}
-use Rattle.ocean.proofs.Passing.{passing}
+use Rattle.ocean.specs.Ocean.{dC, dS}
+use Rattle.ocean.specs.Inner.{Wide}
+use Rattle.ocean.proofs.Entries.{here}
 use Rattle.places.specs.Places.{placeSum, skipped, unlessSkipped, correction, indexOf}
 use Rattle.series.specs.Exact.{scale}
 use Rattle.series.proofs.Sums.{sines-near, cosines-near, pairs-near}
@@ -129,17 +129,18 @@ module _ (s : List ℕ) (passed : ownRefusal s ≡ 0) (phases : Phases) (frame :
     skipped-s = λ j e. skipped-none s phases sCos sSin j frame e;
   }
 
--- ---- the same of every call that nothing refuses: what the entry of place j gained
-module _ (n : ℕ) (c s : List ℤ) (sheet : List ℕ) (phases : Phases) (frame : Frame) (e : oceanRefusal n c s sheet ≡ 0) where
+-- ---- the same of lists that have the places: what the entry of place j gained
+module _ (sheet : List ℕ) (passed : ownRefusal sheet ≡ 0) (phases : Phases) (frame : Frame) where
   gained : (x y d exact : ℤ) → y ≡ x +ℤ d → atMostNineCounts d exact → atMostNineCounts (y -ℤ x) exact
   gained x y d exact q near =
       subst (λ (z : ℤ). atMostNineCounts z exact)
       (sym (ap (λ (z : ℤ). z -ℤ x) q ∙ equal (! 0 ⊕ ! 1 ⊖ ! 0) (! 1) (x ∷ d ∷ []) (omega arith))) near
 
-  pub entries-close-to-exact : EntriesCloseToExact n c s sheet phases frame
-  entries-close-to-exact =
-      let near = close-to-exact sheet (passing n c s sheet e .0) phases frame in
+  pub entries-close-to-exact : (c s : List ℤ) → Wide sheet c → Wide sheet s → EntriesCloseToExact c s sheet phases frame
+  entries-close-to-exact c s C S =
+      let near = close-to-exact sheet passed phases frame in
+      let A = accepted sheet passed in
       record {
-        in-c = λ j h. gained (getD c (indexOf sheet j) (pos 0)) _ _ _ (c-here n c s sheet phases frame e j h) (near .c j h);
-        in-s = λ j h. gained (getD s (indexOf sheet j) (pos 0)) _ _ _ (s-here n c s sheet phases frame e j h) (near .s j h);
+        in-c = λ j h. gained (getD c (indexOf sheet j) (pos 0)) _ _ _ (here A (dC sheet phases frame) C j h) (near .c j h);
+        in-s = λ j h. gained (getD s (indexOf sheet j) (pos 0)) _ _ _ (here A (dS sheet phases frame) S j h) (near .s j h);
       }
