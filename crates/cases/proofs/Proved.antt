@@ -4,10 +4,10 @@ use lib.Ieee.{round}
 use Rattle.count.specs.Count.{count}
 use Rattle.doodson.specs.Doodson.{multipliersIn, numberOf, writable, readDoodson, writeDoodson}
 use Rattle.field.specs.Field.{inRange}
-use Rattle.listing.proofs.Cases.{zeros-listed, worked}
 use Rattle.permanent.specs.Systems.{permanentPart, aboveTideFree, movedC20}
 use Rattle.wave.proofs.Cases.{p4}
 use Rattle.whole.specs.Nearest.{nearest}
+use Rattle.cases.proofs.Listing.{zeros-listed, worked}
 use Rattle.cases.proofs.Ocean.{corrections-are, lengths-are}
 use Rattle.cases.specs.Cases.{Cases}
 

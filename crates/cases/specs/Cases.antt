@@ -16,12 +16,12 @@ use Rattle.count.specs.Count.{count}
 use Rattle.doodson.specs.Doodson.{readDoodson, writeDoodson}
 use Rattle.field.specs.Outcome.{Outcome}
 use Rattle.listing.specs.Listing.{listingOf}
-use Rattle.listing.specs.Text.{ascii}
 use Rattle.ocean.specs.Ocean.{oceanTide}
 use Rattle.permanent.specs.Systems.{movedC20}
 use Rattle.sheet.specs.Accepted.{sheetRefusal}
 use Rattle.step_two.specs.declared.Corrections.{Corrections}
 use Rattle.step_two.specs.StepTwo.{corrections}
+use Rattle.text.specs.Text.{ascii}
 use Rattle.wave.specs.Wave.{sin}
 
 -- six multipliers in the order of the arguments

@@ -194,7 +194,7 @@ pub fn write_next(x: i64) {
     if x < 0 {
         io::write_all(STDOUT_FILENO, &[b'-']);
     }
-    io::print_decimal(STDOUT_FILENO, listing::size(x));
+    io::print_decimal(STDOUT_FILENO, text::magnitude(x));
 }
 
 // A space and an index.

@@ -4,10 +4,10 @@ use Prim.Native.Nat.{_+_, _-_, _≤_}
 use native.Mathlib.Omega.{arith}
 use lib.ListN.{length, take}
 use lib.Seq.{take-all}
-use Rattle.listing.specs.Put.{Put}
-use Rattle.listing.proofs.Puts.{put-next, put-length}
-use Rattle.listing.proofs.put_word.Statement.{statement}
-use Rattle.listing.proofs.put_word.Tie as tie
+use Rattle.text.specs.Inner.{Put}
+use Rattle.text.proofs.Puts.{put-next, put-length}
+use Rattle.text.proofs.put_word.Statement.{statement}
+use Rattle.text.proofs.put_word.Tie as tie
 
 abbrev Inv-loop : tie.InvT-loop
 Inv-loop out₀ at word i₀ out i = (i ≤ length word) × Put out₀ at (take i word) out (at + i)

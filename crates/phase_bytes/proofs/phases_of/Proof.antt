@@ -1,8 +1,8 @@
 -- A phase stands at every fourth byte.
 use borrow.Author.Needs.{needs}
-use Rattle.listing.specs.Listing.{phasesOf}
-use Rattle.listing.proofs.phases_of.Statement.{statement}
-use Rattle.listing.proofs.phases_of.Tie as tie
+use Rattle.phase_bytes.specs.PhaseBytes.{phasesOf}
+use Rattle.phase_bytes.proofs.phases_of.Statement.{statement}
+use Rattle.phase_bytes.proofs.phases_of.Tie as tie
 
 phase-at-requires : tie.Need-phase-at-requires
 phase-at-requires c κs = search needs

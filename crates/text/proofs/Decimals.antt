@@ -8,7 +8,7 @@ use native.Mathlib.Omega.{arith}
 use borrow.Author.Tests.{lt-ltb, le-ltb, ltb-true, ltb-false}
 use lib.Dec.{ltb}
 use lib.ListN.{length, length-append}
-use Rattle.listing.specs.Listing.{digit, digits, decimal}
+use Rattle.text.specs.Text.{digit, digits, decimal}
 
 -- n steps are enough for n, and more make no other text
 same : (k j : ℕ) (below : Bool) (n : ℕ) → ltb n 10 ≡ below → n ≤ k → n ≤ j → digits k below n ≡ digits j below n

@@ -1,9 +1,9 @@
 -- Four bytes, each times its power of 256, are below 2^32.
 use borrow.Author.Needs.{needs}
 use native.Mathlib.Omega.{arith}
-use Rattle.listing.specs.Listing.{phaseAt}
-use Rattle.listing.proofs.phase_at.Statement.{statement}
-use Rattle.listing.proofs.phase_at.Tie as tie
+use Rattle.phase_bytes.specs.PhaseBytes.{phaseAt}
+use Rattle.phase_bytes.proofs.phase_at.Statement.{statement}
+use Rattle.phase_bytes.proofs.phase_at.Tie as tie
 
 shared-slice-read-wide : tie.Need-shared-slice-read-wide
 shared-slice-read-wide c = search needs

@@ -7,7 +7,7 @@ use native.Mathlib.Numerals.{add-one}
 use native.Mathlib.Omega.{arith}
 use lib.ListN.{length, getD, take, set, length-append}
 use lib.Seq.{sets, length-sets, take-suc}
-use Rattle.listing.specs.Put.{Put}
+use Rattle.text.specs.Inner.{Put}
 
 sets-more : (l a b : List ℕ) (at : ℕ) → sets (sets l at a) (at + length a) b ≡ sets l at (a ++ b)
 sets-more l [] b at = rw (add-zero at)

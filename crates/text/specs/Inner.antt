@@ -1,4 +1,4 @@
--- What the functions that write a part of the text say of the buffer.
+-- What the functions that put a text say of the buffer.
 use mathlib.Core.List.{List}
 use mathlib.Core.Path.{_≡_}
 use Prim.Native.Nat.{ℕ, _+_}

@@ -1,10 +1,10 @@
--- What is left of -1 after a negative count is one less than its size, and a count that is not negative is its size.
+-- What is left of -1 after a negative number is one less than its magnitude, and one that is not negative is its own.
 use native.Mathlib.Omega.{arith}
 use lib.IntN.{negsuc, _-ℤ_}
 use mir.Facts.{toZ-ofZ}
-use Rattle.listing.proofs.Signs.{Reversed, reversed, kept}
-use Rattle.listing.proofs.size.Statement.{statement}
-use Rattle.listing.proofs.size.Tie as tie
+use Rattle.text.proofs.Numbers.{Reversed, reversed, kept}
+use Rattle.text.proofs.magnitude.Statement.{statement}
+use Rattle.text.proofs.magnitude.Tie as tie
 
 below : (c : tie.Then1) → Reversed (c .before .args .z) (negsuc 0 -ℤ c .before .args .z)
 below c = reversed (c .before .args .z) (c .before .fits .z) (rw (toZ-ofZ (c .before .fits .z)) at (c .if1 .taken))
@@ -24,10 +24,10 @@ cast-result-2 c =
     rw (toZ-ofZ (c .before .fits .z)) (k .0, omega (arith, k .1))
 
 returns : tie.Need-returns
-returns c = rw (toZ-ofZ (c .before .fits .z), toZ-ofZ (below c .fits)) (below c .size)
+returns c = rw (toZ-ofZ (c .before .fits .z), toZ-ofZ (below c .fits)) (below c .one-less)
 
 returns-2 : tie.Need-returns-2
 returns-2 c = rw (toZ-ofZ (c .before .fits .z))
 
-pub size-spec : {M : Type 1} → statement M
-size-spec = tie.close (tie.spec sub-result cast-result add-result cast-result-2 returns returns-2)
+pub magnitude-spec : {M : Type 1} → statement M
+magnitude-spec = tie.close (tie.spec sub-result cast-result add-result cast-result-2 returns returns-2)

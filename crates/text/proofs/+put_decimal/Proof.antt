@@ -7,15 +7,15 @@ use native.Mathlib.Omega.{arith}
 use lib.ListN.{length, length-append}
 use borrow.Fn.Kinds.{In}
 use borrow.Fn.PlainCycle.{Measures, is, falls, and}
-use Rattle.listing.specs.Listing.{digit, decimal}
-use Rattle.listing.proofs.Puts.{put-then, put-length}
-use Rattle.listing.proofs.Decimals.{one-digit, last-digit}
-use Rattle.listing.proofs.put_decimal.Reads as own
-use Rattle.listing.proofs.put_decimal.Kinds as kinds
-use Rattle.listing.proofs.+put_decimal.Lts-put_decimal as lts
-use Rattle.listing.proofs.put_byte.Reads as byte
-use Rattle.listing.proofs.+put_decimal.{statement}
-use Rattle.listing.proofs.+put_decimal.Tie.{close}
+use Rattle.text.specs.Text.{digit, decimal}
+use Rattle.text.proofs.Puts.{put-then, put-length}
+use Rattle.text.proofs.Decimals.{one-digit, last-digit}
+use Rattle.text.proofs.put_decimal.Reads as own
+use Rattle.text.proofs.put_decimal.Kinds as kinds
+use Rattle.text.proofs.+put_decimal.Lts-put_decimal as lts
+use Rattle.text.proofs.put_byte.Reads as byte
+use Rattle.text.proofs.+put_decimal.{statement}
+use Rattle.text.proofs.+put_decimal.Tie.{close}
 
 abbrev μ : Measures 1 kinds.ps ℕ
 μ κs a = a .1 .1 .0
