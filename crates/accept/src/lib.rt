@@ -4,12 +4,12 @@ ghost use Prim.Native.Nat.{_+_, _^_, _≤_, _<_};
 ghost use lib.Dec.{leb};
 ghost use lib.IntN.{natAbs};
 ghost use Rattle.whole.specs.Sum.{allTo};
-ghost use Rattle.choices.specs.Numbers.{answerNumber};
+ghost use Rattle.refusals.specs.Numbers.{answerNumber};
 ghost use Rattle.sheet.specs.Sheet.{lineCount, tideCount, placeCount};
 ghost use Rattle.sheet.specs.Accepted.{countsValid, placeValid, precedes, ascending, valid, reached, ownRefusal, sheetRefusal};
 ghost use Rattle.sheet.specs.Read.{Whole};
-use choices::Answer;
-use choices::Refusal;
+use refusals::Answer;
+use refusals::Refusal;
 use sheet::Layout;
 
 fn is_count(x: i64) -> bool

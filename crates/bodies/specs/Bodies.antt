@@ -3,8 +3,9 @@ use mathlib.Core.Bool.{Bool, _&&_, cond}
 use Prim.Native.Nat.{_^_}
 use lib.Ieee.{Float, lt, le}
 use Rattle.doubles.specs.Doubles.{_*·_, _/·_, _+·_, _-·_, decimal, minus-decimal, number, finite}
-use Rattle.choices.specs.Numbers.{Told, refusalNumber}
-use Rattle.choices.specs.Numbers.Told.{accepted, refused}
+use Rattle.refusals.specs.Told.{Told}
+use Rattle.refusals.specs.Numbers.{refusalNumber}
+use Rattle.refusals.specs.Told.Told.{accepted, refused}
 use Rattle.bodies.specs.declared.Place.{Place}
 use Rattle.bodies.specs.declared.Place.the-variants.{Rectangular, Directional}
 use Rattle.bodies.specs.declared.Body.{Body}

@@ -1,8 +1,8 @@
 // The Moon and the Sun (document 01, "Step one"): a body's place, its direction, and refusals 3, 4 and 5.
 ghost use mathlib.Core.Path.{_≡_};
 ghost use Rattle.bodies.specs.Bodies.{allFinite, finitePlace, finiteBody, inReach, directionOf, ofLengthOne, sighted, tells};
-use choices::Refusal;
 use doubles::is_finite;
+use refusals::Refusal;
 
 // 2^-40
 const TOLERANCE: f64 = 0.0000000000009094947017729282379150390625;

@@ -4,7 +4,7 @@ use mathlib.Core.Path.{_≡_, refl, ap}
 use Prim.Native.Nat.{ℕ, zero, suc, _≤_}
 use native.Mathlib.Omega.{arith}
 use lib.ListN.{length}
-use Rattle.choices.specs.Numbers.Told.{refused}
+use Rattle.refusals.specs.Told.Told.{refused}
 use Rattle.boundary.specs.Choices.{chosen}
 
 pub no-case : {A : Type 0} (cases : List A) (number : ℕ) → length cases ≤ number → chosen cases number ≡ refused 100

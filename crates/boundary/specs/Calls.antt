@@ -5,10 +5,10 @@ use Prim.Native.Nat.{ℕ}
 use lib.IntN.{ℤ, pos}
 use lib.ListN.{getD}
 use Rattle.arguments.specs.declared.Multipliers.{Multipliers}
-use Rattle.choices.specs.Numbers.{Told}
-use Rattle.choices.specs.Numbers.Told.{accepted, refused}
+use Rattle.refusals.specs.Told.{Told}
+use Rattle.refusals.specs.Told.Told.{accepted, refused}
 use Rattle.doodson.specs.Doodson.{readDoodson, writeDoodson}
-use Rattle.field.specs.Outcome.{Outcome}
+use Rattle.refusals.specs.Outcome.{Outcome}
 use Rattle.lines.specs.Lines.{Found}
 use Rattle.ocean.specs.Ocean.{oceanTide}
 use Rattle.permanent.specs.Systems.{movedC20}

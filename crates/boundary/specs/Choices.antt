@@ -11,8 +11,8 @@ use Rattle.choices.specs.declared.LoveModel.{LoveModel}
 use Rattle.choices.specs.declared.LoveModel.the-variants.{Elastic, Anelastic}
 use Rattle.choices.specs.declared.PermanentSystem.{PermanentSystem}
 use Rattle.choices.specs.declared.PermanentSystem.the-variants.{TideFree, Zero, Mean}
-use Rattle.choices.specs.Numbers.{Told}
-use Rattle.choices.specs.Numbers.Told.{accepted, refused}
+use Rattle.refusals.specs.Told.{Told}
+use Rattle.refusals.specs.Told.Told.{accepted, refused}
 use Rattle.boundary.specs.declared.BodyChoice.{BodyChoice}
 use Rattle.boundary.specs.declared.BodyChoice.the-variants as body
 use Rattle.boundary.specs.declared.FrameChoice.{FrameChoice}

@@ -1,9 +1,9 @@
 // The unit's calls for C: the functions of include/surfgimlet.h, each over the public call of its name.
 // Closed choices come as numbers; one that names no case is answered by 100, before anything else is looked at.
 ghost use mathlib.Core.Path.{_≡_};
-ghost use Rattle.choices.specs.Numbers.{refusalNumber, answerNumber};
+ghost use Rattle.refusals.specs.Numbers.{refusalNumber, answerNumber};
 ghost use Rattle.doodson.specs.Doodson.{writeDoodson};
-ghost use Rattle.field.specs.Outcome.{Gives};
+ghost use Rattle.refusals.specs.Outcome.{Gives};
 ghost use Rattle.lines.specs.Lines.{findLine};
 ghost use Rattle.boundary.specs.Choices.{loveModel, frameOf, permanentSystem, phases, bodyOf, tellsModel, tellsFrame, tellsSystem, tellsBody};
 ghost use Rattle.boundary.specs.Calls.{stepOneGiven, stepTwoGiven, oceanGiven, moveGiven, multipliersGiven, unlisted, found, Leaves};
@@ -11,15 +11,15 @@ use arguments::Multipliers;
 use arguments::Phases;
 use bodies::Body;
 use bodies::Place;
-use choices::Answer;
 use choices::Frame;
 use choices::LoveModel;
 use choices::PermanentSystem;
-use choices::Refusal;
 use doodson::Read;
 use doodson::Written;
 use lines::Sought;
 use permanent::Moved;
+use refusals::Answer;
+use refusals::Refusal;
 
 const NO_SUCH_CHOICE: u32 = 100;
 

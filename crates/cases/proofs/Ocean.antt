@@ -6,8 +6,9 @@ use lib.IntN.{pos, negℤ}
 use lib.ListN.{take}
 use Rattle.arguments.specs.Phase.{modulo, phase}
 use Rattle.choices.specs.declared.Frame.the-variants.{CentreOfFigure}
-use Rattle.field.specs.Field.{size, place, shaped as fieldShaped, inRange, everyInRange, fieldRefusal}
-use Rattle.field.specs.Outcome.{corrected, firstOf, unlessRefused}
+use Rattle.field.specs.Field.{size, place, shapedBy, everyInRange, fieldRefusal}
+use Rattle.field.specs.Added.{corrected}
+use Rattle.refusals.specs.Outcome.{firstOf, unlessRefused}
 use Rattle.ocean.specs.Ocean.{dC, dS, oceanRefusal, oceanTide}
 use Rattle.places.specs.Places.{placeSum, skipped, unlessSkipped, correction, added}
 use Rattle.sheet.specs.Accepted.{shaped, lineValid, rowValid, countsValid, placeValid, precedes, ascending, valid, reached, ownRefusal, sheetRefusal}
@@ -21,7 +22,7 @@ use Rattle.cases.specs.Cases.{tauAlone, sheet, zeros, atPlace22}
 
 pub corrections-are : (oceanTide 4 zeros zeros sheet (tauAlone 0) CentreOfFigure ≡ atPlace22 (pos 1000) (pos 0))
     × (oceanTide 4 zeros zeros sheet (tauAlone (2 ^ 29)) CentreOfFigure ≡ atPlace22 (pos 0) (negℤ (pos 500)))
-unfolding oceanTide oceanRefusal unlessRefused fieldRefusal fieldShaped size place everyInRange inRange corrected added dC dS correction unlessSkipped skipped placeSum fcos fsin factor lineSum nearest phase modulo multipliers sumTo sin cos further eighths signedEighth part folded eighth-sine eighth-cosine steps step square angle sheetRefusal firstOf ownRefusal shaped valid reached lineValid rowValid placeValid countsValid ascending precedes signed lineCount tideCount placeCount multiplier admittance degree order coefficient weightTo allTo
+unfolding oceanTide oceanRefusal unlessRefused fieldRefusal shapedBy size place everyInRange corrected added dC dS correction unlessSkipped skipped placeSum fcos fsin factor lineSum nearest phase modulo multipliers sumTo sin cos further eighths signedEighth part folded eighth-sine eighth-cosine steps step square angle sheetRefusal firstOf ownRefusal shaped valid reached lineValid rowValid placeValid countsValid ascending precedes signed lineCount tideCount placeCount multiplier admittance degree order coefficient weightTo allTo
 corrections-are = (refl, refl)
 
 pub lengths-are : map (λ s. sheetRefusal s 4) (sheet ∷ take 33 sheet ∷ (sheet ++ 0 ∷ []) ∷ []) ≡ 0 ∷ 7 ∷ 7 ∷ []

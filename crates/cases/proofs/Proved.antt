@@ -3,7 +3,6 @@ use mathlib.Core.Path.{refl}
 use lib.Ieee.{round}
 use Rattle.count.specs.Count.{count}
 use Rattle.doodson.specs.Doodson.{multipliersIn, numberOf, writable, readDoodson, writeDoodson}
-use Rattle.field.specs.Field.{inRange}
 use Rattle.permanent.specs.Systems.{permanentPart, aboveTideFree, movedC20}
 use Rattle.wave.proofs.Cases.{p4}
 use Rattle.whole.specs.Nearest.{nearest}
@@ -12,7 +11,7 @@ use Rattle.cases.proofs.Ocean.{corrections-are, lengths-are}
 use Rattle.cases.specs.Cases.{Cases}
 
 pub cases : Cases
-unfolding readDoodson writeDoodson writable numberOf multipliersIn count nearest round inRange movedC20 aboveTideFree permanentPart
+unfolding readDoodson writeDoodson writable numberOf multipliersIn count nearest round movedC20 aboveTideFree permanentPart
 cases = record {
   p1 = refl;
   p1-back = refl;

@@ -11,10 +11,10 @@ use Rattle.arguments.specs.declared.Phases.{Phases}
 use Rattle.choices.specs.declared.Frame.the-variants.{CentreOfFigure}
 use Rattle.choices.specs.declared.LoveModel.the-variants.{Anelastic}
 use Rattle.choices.specs.declared.PermanentSystem.the-variants.{TideFree, Zero, Mean}
-use Rattle.choices.specs.Numbers.Told.{accepted, refused}
+use Rattle.refusals.specs.Told.Told.{accepted, refused}
 use Rattle.count.specs.Count.{count}
 use Rattle.doodson.specs.Doodson.{readDoodson, writeDoodson}
-use Rattle.field.specs.Outcome.{Outcome}
+use Rattle.refusals.specs.Outcome.{Outcome}
 use Rattle.listing.specs.Listing.{listingOf}
 use Rattle.ocean.specs.Ocean.{oceanTide}
 use Rattle.permanent.specs.Systems.{movedC20}

@@ -1,4 +1,4 @@
-// The closed choices of the unit's calls, and what a call answers.
+// The closed choices of the unit's calls.
 
 // The Earth whose Love numbers a solid tide takes (001, Table 6.1).
 pub enum LoveModel {
@@ -17,25 +17,4 @@ pub enum PermanentSystem {
     TideFree,
     Zero,
     Mean,
-}
-
-// Why a call is refused; specs/Numbers.antt has the number of each.
-pub enum Refusal {
-    FieldShape,
-    FieldRange,
-    NotFinite,
-    BodyRange,
-    NotUnit,
-    StepOneRange,
-    SheetLength,
-    SheetValue,
-    SheetDegree,
-    NotDoodson,
-    NoSuchLine,
-}
-
-// The answer of a call whose results stand in lent memory.
-pub enum Answer {
-    Accepted,
-    Refused(Refusal),
 }

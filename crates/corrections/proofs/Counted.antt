@@ -10,8 +10,8 @@ use lib.ListN.{getD}
 use Rattle.whole.specs.Nearest.{nearest}
 use Rattle.count.specs.Count.{count, signed}
 use Rattle.choices.specs.declared.LoveModel.{LoveModel}
-use Rattle.choices.specs.Numbers.{Told}
-use Rattle.choices.specs.Numbers.Told.{accepted, refused}
+use Rattle.refusals.specs.Told.{Told}
+use Rattle.refusals.specs.Told.Told.{accepted, refused}
 use Rattle.bodies.specs.declared.Body.{Body}
 use Rattle.bodies.specs.declared.Direction.{Direction}
 use Rattle.bodies.specs.Bodies.{sighted}

@@ -7,7 +7,7 @@ use Rattle.whole.specs.Nearest.{nearest}
 use Rattle.doubles.specs.Doubles.{decimal, minus-decimal, number}
 use Rattle.choices.specs.declared.LoveModel.{LoveModel}
 use Rattle.choices.specs.declared.LoveModel.the-variants.{Elastic, Anelastic}
-use Rattle.choices.specs.Numbers.Told.{accepted}
+use Rattle.refusals.specs.Told.Told.{accepted}
 use Rattle.count.specs.Count.{count, signed}
 use Rattle.powers.specs.Powers.{E, F}
 use Rattle.constants.specs.Love.{loves, loves3}

@@ -3,10 +3,11 @@ use mathlib.Core.Bool.{cond, _&&_}
 use mathlib.Core.List.{List}
 use lib.IntN.{ℤ}
 use Rattle.choices.specs.declared.LoveModel.{LoveModel}
-use Rattle.choices.specs.declared.Answer.{Answer}
-use Rattle.choices.specs.declared.Answer.the-variants.{Accepted, Refused}
-use Rattle.choices.specs.Numbers.{Told, refusalNumber}
-use Rattle.choices.specs.Numbers.Told.{accepted, refused}
+use Rattle.refusals.specs.declared.Answer.{Answer}
+use Rattle.refusals.specs.declared.Answer.the-variants.{Accepted, Refused}
+use Rattle.refusals.specs.Told.{Told}
+use Rattle.refusals.specs.Numbers.{refusalNumber}
+use Rattle.refusals.specs.Told.Told.{accepted, refused}
 use Rattle.constants.specs.Love.{loves, loves3}
 use Rattle.bodies.specs.declared.Body.{Body}
 use Rattle.bodies.specs.declared.Direction.{Direction}

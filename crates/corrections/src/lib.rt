@@ -1,19 +1,19 @@
 // Solid tide, step one (001, eqs. 1 to 7; document 01, "Step one"): the Moon and the Sun.
 ghost use mathlib.Core.Path.{_≡_};
-ghost use Rattle.choices.specs.Numbers.{refusalNumber};
-ghost use Rattle.choices.specs.Numbers.Told.{refused};
+ghost use Rattle.refusals.specs.Numbers.{refusalNumber};
+ghost use Rattle.refusals.specs.Told.Told.{refused};
 ghost use Rattle.corrections.specs.Corrections.{floats, measured, corrections, tells};
 use bodies::Body;
 use bodies::Direction;
 use bodies::Sight;
 use bodies::see;
-use choices::Answer;
 use choices::LoveModel;
-use choices::Refusal;
 use constants::loves_3;
 use constants::loves_of;
 use potential::shared_of;
 use potential::terms_of;
+use refusals::Answer;
+use refusals::Refusal;
 use response::Changes;
 use response::are_countable;
 use response::changes_of;

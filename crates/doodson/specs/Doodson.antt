@@ -5,8 +5,9 @@ use lib.Dec.{leb}
 use lib.IntN.{ℤ, pos, negsuc, natAbs, _+ℤ_, _-ℤ_}
 use lib.Signed.{leZ}
 use Rattle.arguments.specs.declared.Multipliers.{Multipliers}
-use Rattle.choices.specs.Numbers.{Told, refusalNumber}
-use Rattle.choices.specs.Numbers.Told.{accepted, refused}
+use Rattle.refusals.specs.Told.{Told}
+use Rattle.refusals.specs.Numbers.{refusalNumber}
+use Rattle.refusals.specs.Told.Told.{accepted, refused}
 use Rattle.doodson.specs.declared.Read.{Read}
 use Rattle.doodson.specs.declared.Read.the-variants as read
 use Rattle.doodson.specs.declared.Written.{Written}

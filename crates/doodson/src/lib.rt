@@ -5,7 +5,7 @@ ghost use Prim.Native.Nat.{_/_, _%_, _+_, _*_, _≤_};
 ghost use lib.IntN.{pos, natAbs, _+ℤ_, _-ℤ_};
 ghost use Rattle.doodson.specs.Doodson.{isDoodson, multipliersIn, writable, other, readDoodson, writeDoodson, tellsRead, tellsWritten};
 use arguments::Multipliers;
-use choices::Refusal;
+use refusals::Refusal;
 
 pub enum Read {
     Multipliers(Multipliers),

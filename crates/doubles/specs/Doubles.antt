@@ -29,6 +29,9 @@ minus-decimal n d = round binary64 true n d
 abbrev pub number : ℕ → Float
 number n = decimal n 1
 
+abbrev pub minus-number : ℕ → Float
+minus-number n = minus-decimal n 1
+
 abbrev pub finite : Float → Bool
 finite nan = false
 finite (inf s) = false

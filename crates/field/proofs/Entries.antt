@@ -13,11 +13,12 @@ use lib.Signed.{mag}
 use mir.Syntax.{w64}
 use mir.Val.{toZ, ofZ}
 use Rattle.whole.proofs.Machine.{back}
-use Rattle.field.specs.Field.{inRange, everyInRange}
-use Rattle.field.specs.Outcome.{corrected}
+use Rattle.limits.specs.Limits.{isEntry}
+use Rattle.field.specs.Field.{everyInRange}
+use Rattle.field.specs.Added.{corrected}
 use Rattle.whole.proofs.Tests.{and-left, and-right}
 
-every-step : (l : List ℤ) (i : ℕ) → i < length l → everyInRange (drop i l) ≡ (inRange (getD l i (pos 0)) && everyInRange (drop (i + 1) l))
+every-step : (l : List ℤ) (i : ℕ) → i < length l → everyInRange (drop i l) ≡ (isEntry (getD l i (pos 0)) && everyInRange (drop (i + 1) l))
 unfolding everyInRange
 every-step l i h = rw (add-one, drop-cons l i (pos 0) h)
 
@@ -26,9 +27,9 @@ unfolding everyInRange
 every-end l i h k = let e : i ≡ length l = omega arith in rw (e, drop-length)
 
 -- an entry was read and tested: r is what the test of what the machine reads back says
-module _ (l : List ℤ) (i : ℕ) (r : Bool) (h : i < length l) (m : mag (getD l i (pos 0)) < 2 ^ 63) (e : r ≡ inRange (toZ w64 (ofZ w64 (getD l i (pos 0))))) where
+module _ (l : List ℤ) (i : ℕ) (r : Bool) (h : i < length l) (m : mag (getD l i (pos 0)) < 2 ^ 63) (e : r ≡ isEntry (toZ w64 (ofZ w64 (getD l i (pos 0))))) where
   tested : (b : Bool) → r ≡ b → everyInRange (drop i l) ≡ (b && everyInRange (drop (i + 1) l))
-  tested b t = every-step l i h ∙ ap (λ (x : Bool). x && everyInRange (drop (i + 1) l)) (ap inRange (sym (back w64 (getD l i (pos 0)) m)) ∙ sym e ∙ t)
+  tested b t = every-step l i h ∙ ap (λ (x : Bool). x && everyInRange (drop (i + 1) l)) (ap isEntry (sym (back w64 (getD l i (pos 0)) m)) ∙ sym e ∙ t)
 
   pub every-next : r ≡ true → everyInRange (drop i l) ≡ everyInRange (drop (i + 1) l)
   every-next t = tested true t
@@ -38,10 +39,10 @@ module _ (l : List ℤ) (i : ℕ) (r : Bool) (h : i < length l) (m : mag (getD l
 
 -- an entry of a list in range, and what stands past its end
 pub entry-in-range : (l : List ℤ) → everyInRange l ≡ true → (k : ℕ) → natAbs (getD l k (pos 0)) ≤ 2 ^ 60
-unfolding everyInRange inRange
+unfolding everyInRange
 entry-in-range [] e k = omega arith
-entry-in-range (z ∷ zs) e zero = leb-true _ _ (and-left (inRange z) (everyInRange zs) e)
-entry-in-range (z ∷ zs) e (suc k) = entry-in-range zs (and-right (inRange z) (everyInRange zs) e) k
+entry-in-range (z ∷ zs) e zero = leb-true _ _ (and-left (isEntry z) (everyInRange zs) e)
+entry-in-range (z ∷ zs) e (suc k) = entry-in-range zs (and-right (isEntry z) (everyInRange zs) e) k
 
 -- a corrected list: as long as before, the entry corrected, every other as before
 module _ (l : List ℤ) (at : ℕ) (d : ℤ) where

@@ -1,3 +1,4 @@
 pub mod Entries
 pub mod Table
-pub mod Outcomes
+pub mod Accepted
+pub mod Added

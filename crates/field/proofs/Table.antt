@@ -10,7 +10,7 @@ use lib.Dec.{T, leb, eqb}
 use lib.IntN.{ℤ, pos, natAbs}
 use lib.ListN.{length, getD}
 use Rattle.whole.proofs.Tests.{and-left, and-right}
-use Rattle.field.specs.Field.{size, shaped, inRange, everyInRange, fieldRefusal}
+use Rattle.field.specs.Field.{size, shaped, shapedBy, everyInRange, fieldRefusal}
 use Rattle.field.proofs.Entries.{entry-in-range}
 
 -- N is 4 to 60, and both lists have (N+1)(N+2)/2 entries
@@ -25,7 +25,7 @@ pub record InRange (l : List ℤ) : Type 0 where
   pub entry : (k : ℕ) → natAbs (getD l k (pos 0)) ≤ 2 ^ 60
 
 is-shaped : (n : ℕ) (c s : List ℤ) → shaped n c s ≡ true ↔ Shaped n c s
-unfolding shaped
+unfolding shapedBy
 is-shaped n c s = (
   λ e.
       let three = and-left (leb 4 n && leb n 60 && eqb (length c) (size n)) (eqb (length s) (size n)) e in
@@ -40,7 +40,7 @@ is-shaped n c s = (
 )
 
 pub all-in : (l : List ℤ) → ((k : ℕ) → natAbs (getD l k (pos 0)) ≤ 2 ^ 60) → everyInRange l ≡ true
-unfolding everyInRange inRange
+unfolding everyInRange
 all-in [] h = refl
 all-in (z ∷ zs) h = rw (le-leb (natAbs z) (2 ^ 60) (h 0)) (all-in zs (λ k. h (suc k)))
 

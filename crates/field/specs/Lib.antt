@@ -1,2 +1,3 @@
 pub mod Field
-pub mod Outcome
+pub mod Added
+pub mod Inner

@@ -1,36 +1,23 @@
-// The field (document 01, "Units and the field"): two lent lists of signed counts, and what refuses them.
+// The field (document 01, "Units and the field"): two lent lists of signed counts, what refuses them, and the one writer to them.
 ghost use mathlib.Core.Path.{_≡_};
 ghost use Prim.Native.Nat.{_^_, _≤_, _<_};
 ghost use lib.IntN.{natAbs, pos};
 ghost use lib.ListN.{length, getD};
-ghost use Rattle.choices.specs.Numbers.{answerNumber};
-ghost use Rattle.field.specs.Field.{size, inRange, everyInRange, fieldRefusal};
-ghost use Rattle.field.specs.Outcome.{corrected};
-use choices::Answer;
-use choices::Refusal;
+ghost use Rattle.refusals.specs.Numbers.{answerNumber};
+ghost use Rattle.field.specs.Added.{corrected, addedFrom};
+ghost use Rattle.field.specs.Field.{size, everyInRange, shapedBy, fieldRefusal};
+ghost use Rattle.field.specs.Inner.{Ready};
+use refusals::Answer;
+use refusals::Refusal;
 
-const LEAST_DEGREE: u32 = 4;
-
-const LARGEST_DEGREE: u32 = 60;
-
-// 2^60: the largest size of an entry.
-const LIMIT: i64 = 1152921504606846976;
-
-// Whether a count may stand in a field.
-pub fn in_range(x: i64) -> bool
-    ensures { λ r. ⌜ r ≡ inRange x ⌝ }
-{
-    (-LIMIT <= x) & (x <= LIMIT)
-}
-
-// Whether every entry may.
+// Whether every entry is in range.
 fn every_in_range(list: &[i64]) -> bool
     ensures { λ r. ⌜ r ≡ everyInRange (now (list .entry)) ⌝ }
 {
     let mut i = 0;
     while i < list.len() {
         let x = list[i];
-        if in_range(x) {
+        if limits::is_entry(x) {
             i += 1;
         } else {
             return false;
@@ -48,31 +35,30 @@ fn size_of(n: u32) -> usize
     (k + 1) * (k + 2) / 2
 }
 
+// Whether lists of these lengths are a field of degree n.
+fn is_shaped(n: u32, c: usize, s: usize) -> bool
+    ensures { λ r. ⌜ r ≡ shapedBy n c s ⌝ }
+{
+    if limits::is_degree(n) {
+        let entries = size_of(n);
+        (c == entries) & (s == entries)
+    } else {
+        false
+    }
+}
+
 // Refusals 1 and 2.
 pub fn tested(n: u32, c: &[i64], s: &[i64]) -> Answer
     ensures { λ r. ⌜ answerNumber r ≡ fieldRefusal n (now (c .entry)) (now (s .entry)) ⌝ }
 {
-    if n < LEAST_DEGREE {
-        return Answer::Refused(Refusal::FieldShape);
-    }
-    if LARGEST_DEGREE < n {
-        return Answer::Refused(Refusal::FieldShape);
-    }
-    let entries = size_of(n);
-    if c.len() != entries {
-        return Answer::Refused(Refusal::FieldShape);
-    }
-    if s.len() != entries {
-        return Answer::Refused(Refusal::FieldShape);
-    }
-    if every_in_range(c) {
-        if every_in_range(s) {
+    if is_shaped(n, c.len(), s.len()) {
+        if every_in_range(c) & every_in_range(s) {
             Answer::Accepted
         } else {
             Answer::Refused(Refusal::FieldRange)
         }
     } else {
-        Answer::Refused(Refusal::FieldRange)
+        Answer::Refused(Refusal::FieldShape)
     }
 }
 
@@ -84,4 +70,16 @@ pub fn correct(list: &mut [i64], at: usize, by: i64)
     ensures { λ _. ⌜ now (list .exit) ≡ corrected (now (list .entry)) at by ⌝ }
 {
     list[at] = list[at] + by;
+}
+
+// Corrects the entries that stand one after the other from a place on.
+pub fn add_run(list: &mut [i64], from: usize, by: &[i64])
+    requires { ⌜ Ready (now list) from (now by) ⌝ }
+    ensures { λ _. ⌜ now (list .exit) ≡ addedFrom from (now (by .entry)) (now (list .entry)) ⌝ }
+{
+    let mut k = 0;
+    while k < by.len() {
+        correct(list, from + k, by[k]);
+        k += 1;
+    }
 }

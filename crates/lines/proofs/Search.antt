@@ -9,8 +9,8 @@ use native.Mathlib.Omega.{arith}
 use lib.Dec.{eqb}
 use lib.ListN.{length, drop}
 use lib.Seq.{drop-cons, drop-length}
-use Rattle.choices.specs.Numbers.{Told}
-use Rattle.choices.specs.Numbers.Told.{accepted, refused}
+use Rattle.refusals.specs.Told.{Told}
+use Rattle.refusals.specs.Told.Told.{accepted, refused}
 use Rattle.lines.specs.Lines.{printed, lineAt, nowhere, soughtFrom, Printed, Found}
 use Rattle.lines.proofs.Table.{count}
 

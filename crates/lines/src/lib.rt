@@ -3,7 +3,7 @@ ghost use mathlib.Core.Path.{_≡_};
 ghost use Prim.Native.Nat.{_<_};
 ghost use Rattle.lines.specs.Lines.{lineAt, multipliersAt, findLine, tells};
 use arguments::Multipliers;
-use choices::Refusal;
+use refusals::Refusal;
 
 // Doodson numbers.
 const NUMBERS: [u32; 49] = [

@@ -8,8 +8,9 @@ use lib.ListN.{length, getD}
 use Rattle.arguments.specs.declared.Phases.{Phases}
 use Rattle.choices.specs.declared.Frame.{Frame}
 use Rattle.field.specs.Field.{place, fieldRefusal}
-use Rattle.field.specs.Outcome.{unlessRefused}
-use Rattle.field.proofs.Outcomes.{accepted-field, place-below, first-none}
+use Rattle.refusals.specs.Outcome.{unlessRefused}
+use Rattle.field.proofs.Accepted.{accepted-field, place-below}
+use Rattle.refusals.proofs.Outcomes.{first-none}
 use Rattle.places.specs.Places.{added}
 use Rattle.places.proofs.Added.{added-here, added-elsewhere, added-kept}
 use Rattle.places.proofs.Zonal.{no-correction, zonal-place}

@@ -5,7 +5,8 @@ use Prim.Native.Nat.{ℕ, _<_}
 use lib.IntN.{ℤ}
 use lib.ListN.{length}
 use Rattle.field.specs.Field.{size, fieldRefusal}
-use Rattle.field.proofs.Outcomes.{accepted-field, place-below, first-none}
+use Rattle.field.proofs.Accepted.{accepted-field, place-below}
+use Rattle.refusals.proofs.Outcomes.{first-none}
 use Rattle.sheet.specs.Accepted.{ownRefusal, sheetRefusal}
 use Rattle.sheet.specs.Sheet.{placeCount, degree, order}
 use Rattle.sheet.proofs.Acceptance.{accepted, accepted-for, index}

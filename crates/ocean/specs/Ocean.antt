@@ -5,7 +5,7 @@ use lib.IntN.{ℤ}
 use Rattle.arguments.specs.declared.Phases.{Phases}
 use Rattle.choices.specs.declared.Frame.{Frame}
 use Rattle.field.specs.Field.{fieldRefusal}
-use Rattle.field.specs.Outcome.{firstOf, unlessRefused, Outcome}
+use Rattle.refusals.specs.Outcome.{firstOf, unlessRefused, Outcome}
 use Rattle.places.specs.Places.{correction, added}
 use Rattle.sheet.specs.Accepted.{sheetRefusal}
 use Rattle.sheet.specs.Sheet.{placeCount, cCos, sCos, cSin, sSin}

@@ -1,14 +1,14 @@
 // The ocean tide of a model sheet (002; document 01, "Model sheet and ocean tide"), added to a field.
 ghost use mathlib.Core.Path.{_≡_};
-ghost use Rattle.choices.specs.Numbers.{answerNumber};
-ghost use Rattle.field.specs.Outcome.{Gives};
+ghost use Rattle.refusals.specs.Numbers.{answerNumber};
+ghost use Rattle.refusals.specs.Outcome.{Gives};
 ghost use Rattle.places.specs.Held.{Wide};
 ghost use Rattle.sheet.specs.Accepted.{ownRefusal};
 ghost use Rattle.ocean.specs.Ocean.{oceanRefusal, oceanTide};
 ghost use Rattle.ocean.specs.Tided.{Tided};
 use arguments::Phases;
-use choices::Answer;
 use choices::Frame;
+use refusals::Answer;
 
 // Refusals 1, 2, 7, 8 and 9.
 fn tested(n: u32, c: &[i64], s: &[i64], sheet: &[u8]) -> Answer

@@ -7,8 +7,8 @@ use native.Mathlib.Omega.{arith}
 use lib.IntN.{ℤ, _+ℤ_, _-ℤ_}
 use Rattle.choices.specs.declared.LoveModel.{LoveModel}
 use Rattle.choices.specs.declared.PermanentSystem.{PermanentSystem}
-use Rattle.choices.specs.Numbers.Told.{accepted, refused}
-use Rattle.field.specs.Field.{inRange}
+use Rattle.refusals.specs.Told.Told.{accepted, refused}
+use Rattle.limits.specs.Limits.{isEntry}
 use Rattle.whole.proofs.Ring.{equal, !, _⊕_, _⊖_}
 use Rattle.permanent.specs.Systems.{aboveTideFree, movedC20}
 
@@ -23,6 +23,6 @@ unfolding movedC20
 there-and-back c20 d e from to love there back =
     let f = aboveTideFree from love in
     let t = aboveTideFree to love in
-    sym (value-of (inRange d) 2 (d -ℤ t +ℤ f) e back)
-    ∙ ap (λ (z : ℤ). z -ℤ t +ℤ f) (sym (value-of (inRange c20) 2 (c20 -ℤ f +ℤ t) d there))
+    sym (value-of (isEntry d) 2 (d -ℤ t +ℤ f) e back)
+    ∙ ap (λ (z : ℤ). z -ℤ t +ℤ f) (sym (value-of (isEntry c20) 2 (c20 -ℤ f +ℤ t) d there))
     ∙ equal (! 0 ⊖ ! 1 ⊕ ! 2 ⊖ ! 2 ⊕ ! 1) (! 0) (c20 ∷ f ∷ t ∷ []) (omega arith)

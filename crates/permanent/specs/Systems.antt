@@ -5,9 +5,10 @@ use Rattle.choices.specs.declared.LoveModel.{LoveModel}
 use Rattle.choices.specs.declared.LoveModel.the-variants.{Elastic, Anelastic}
 use Rattle.choices.specs.declared.PermanentSystem.{PermanentSystem}
 use Rattle.choices.specs.declared.PermanentSystem.the-variants.{TideFree, Zero, Mean}
-use Rattle.choices.specs.Numbers.{Told, refusalNumber}
-use Rattle.choices.specs.Numbers.Told.{accepted, refused}
-use Rattle.field.specs.Field.{inRange}
+use Rattle.refusals.specs.Told.{Told}
+use Rattle.refusals.specs.Numbers.{refusalNumber}
+use Rattle.refusals.specs.Told.Told.{accepted, refused}
+use Rattle.limits.specs.Limits.{isEntry}
 use Rattle.permanent.specs.declared.Moved.{Moved}
 use Rattle.permanent.specs.declared.Moved.the-variants.{C20, Refused}
 
@@ -25,7 +26,7 @@ aboveTideFree Mean love = permanentPart love +ℤ negℤ (pos 13914129)
 -- one C20 in the system it is in, moved to the one wanted; 2 where it is outside the range
 unfoldable pub movedC20 : ℤ → PermanentSystem → PermanentSystem → LoveModel → Told ℤ
 movedC20 c20 from to love =
-    cond (inRange c20) (accepted (c20 -ℤ aboveTideFree from love +ℤ aboveTideFree to love)) (refused 2)
+    cond (isEntry c20) (accepted (c20 -ℤ aboveTideFree from love +ℤ aboveTideFree to love)) (refused 2)
 
 -- the number and the value of each answer
 abbrev pub tells : Moved → Told ℤ

@@ -3,7 +3,7 @@ ghost use mathlib.Core.Path.{_≡_};
 ghost use Rattle.permanent.specs.Systems.{permanentPart, aboveTideFree, movedC20, tells};
 use choices::LoveModel;
 use choices::PermanentSystem;
-use choices::Refusal;
+use refusals::Refusal;
 
 // What a mean C20 has more than a zero one, in counts: A0*H0, the tide itself.
 const MEAN_ABOVE_ZERO: i64 = -13914129;
@@ -40,7 +40,7 @@ fn above_tide_free(system: PermanentSystem, love: LoveModel) -> i64
 pub fn move_c20(c20: i64, from: PermanentSystem, to: PermanentSystem, love: LoveModel) -> Moved
     ensures { λ r. ⌜ tells r ≡ movedC20 c20 from to love ⌝ }
 {
-    if field::in_range(c20) {
+    if limits::is_entry(c20) {
         Moved::C20(c20 - above_tide_free(from, love) + above_tide_free(to, love))
     } else {
         Moved::Refused(Refusal::FieldRange)

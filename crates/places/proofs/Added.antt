@@ -11,7 +11,7 @@ use borrow.Author.Tests.{eqb-true, eqb-false}
 use lib.Dec.{eqb}
 use lib.IntN.{ℤ, pos, _+ℤ_, +ℤ-idr}
 use lib.ListN.{length, getD}
-use Rattle.field.specs.Outcome.{corrected}
+use Rattle.field.specs.Added.{corrected}
 use Rattle.field.proofs.Entries.{corrected-length, corrected-here, corrected-elsewhere}
 use Rattle.sheet.specs.Sheet.{placeCount}
 use Rattle.sheet.proofs.Acceptance.{Accepted, index}

@@ -7,7 +7,7 @@ use lib.IntN.{ℤ, pos, _+ℤ_, _*ℤ_}
 use Rattle.choices.specs.declared.Frame.{Frame}
 use Rattle.choices.specs.declared.Frame.the-variants.{CentreOfFigure, CentreOfMass}
 use Rattle.field.specs.Field.{place}
-use Rattle.field.specs.Outcome.{corrected}
+use Rattle.field.specs.Added.{corrected}
 use Rattle.sheet.specs.Sheet.{tideCount, degree, order, coefficient}
 use Rattle.whole.specs.Nearest.{nearest}
 use Rattle.whole.specs.Sum.{sumTo}

@@ -53,7 +53,10 @@ fn correction_of(
     if is_skipped(frame, sheet::degree_at(sheet, l, j)) {
         return 0;
     }
-    whole::nearest_30(column_sum(sheet, l, j, p, cosines) + column_sum(sheet, l, j, q, sines))
+    whole::nearest_of(
+        column_sum(sheet, l, j, p, cosines) + column_sum(sheet, l, j, q, sines),
+        1073741824,
+    )
 }
 
 // Where place j stands in a list.

@@ -4,13 +4,13 @@ ghost use mathlib.Core.Path.{_≡_};
 ghost use Prim.Native.Nat.{_≤_, _<_};
 ghost use lib.ListN.{length, take};
 ghost use Rattle.io.specs.Counts.{Counts};
-ghost use Rattle.choices.specs.Numbers.{refusalNumber, answerNumber};
+ghost use Rattle.refusals.specs.Numbers.{refusalNumber, answerNumber};
 use arguments::Phases;
-use choices::Answer;
 use choices::LoveModel;
-use choices::Refusal;
 use libc::STDIN_FILENO;
 use libc::STDOUT_FILENO;
+use refusals::Answer;
+use refusals::Refusal;
 
 // Entries of the longest list that a case has, which is of degree 62.
 pub const ROOM: usize = 2048;
@@ -194,7 +194,7 @@ pub fn write_next(x: i64) {
     if x < 0 {
         io::write_all(STDOUT_FILENO, &[b'-']);
     }
-    io::print_decimal(STDOUT_FILENO, text::magnitude(x));
+    io::print_decimal(STDOUT_FILENO, whole::size_of(x));
 }
 
 // A space and an index.

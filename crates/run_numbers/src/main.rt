@@ -3,11 +3,11 @@
 use arguments::Multipliers;
 use choices::LoveModel;
 use choices::PermanentSystem;
-use choices::Refusal;
 use doodson::Read;
 use doodson::Written;
 use lines::Sought;
 use permanent::Moved;
+use refusals::Refusal;
 use replay::read_i32;
 use replay::read_i64;
 use replay::read_u8;

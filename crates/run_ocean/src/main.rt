@@ -1,7 +1,7 @@
 // Replays stored cases of the ocean tide: fields, and the calls made on each in turn. A line a call: the answer's number, 0 where it is
 // accepted, and each entry that the call changed.
-use choices::Answer;
 use choices::Frame;
+use refusals::Answer;
 use replay::read_u32;
 
 fn read_frame() -> Frame {

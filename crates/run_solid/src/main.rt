@@ -2,7 +2,7 @@
 // accepted, and each entry that the call changed.
 use bodies::Body;
 use bodies::Place;
-use choices::Answer;
+use refusals::Answer;
 use replay::read_f64;
 use replay::read_u8;
 use replay::read_u32;

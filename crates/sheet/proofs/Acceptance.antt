@@ -16,7 +16,7 @@ use Rattle.sheet.specs.Sheet.{lineCount, tideCount, placeCount, endAt, m
 use Rattle.sheet.specs.Accepted.{shaped, lineValid, rowValid, countsValid, placeValid, precedes, ascending, valid, reached, ownRefusal, sheetRefusal}
 use Rattle.sheet.specs.declared.Layout.{Layout}
 use Rattle.sheet.specs.Read.{Whole, Passed}
-use Rattle.field.proofs.Outcomes.{first-none}
+use Rattle.refusals.proofs.Outcomes.{first-none}
 use Rattle.whole.proofs.Counted.{all-at}
 
 four : (a b c d : Bool) → (a && b && c && d) ≡ true → (a ≡ true) × (b ≡ true) × (c ≡ true) × (d ≡ true)

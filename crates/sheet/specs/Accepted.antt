@@ -5,7 +5,7 @@ use Prim.Native.Nat.{ℕ, _+_, _-_, _^_}
 use lib.Dec.{leb, ltb, eqb}
 use lib.IntN.{natAbs}
 use lib.ListN.{length}
-use Rattle.field.specs.Outcome.{firstOf}
+use Rattle.refusals.specs.Outcome.{firstOf}
 use Rattle.whole.specs.Sum.{weightTo, allTo}
 use Rattle.sheet.specs.Sheet.{lineCount, tideCount, placeCount, endAt, multiplier, admittance, degree, order, sCos, sSin, coefficient}
 

@@ -12,10 +12,11 @@ use lib.IntN.{ℤ, pos, +ℤ-idr}
 use lib.ListN.{getD, set}
 use lib.Seq.{set-getD}
 use Rattle.choices.specs.declared.LoveModel.{LoveModel}
-use Rattle.choices.specs.Numbers.{Told}
-use Rattle.choices.specs.Numbers.Told.{accepted, refused}
+use Rattle.refusals.specs.Told.{Told}
+use Rattle.refusals.specs.Told.Told.{accepted, refused}
 use Rattle.field.specs.Field.{place}
-use Rattle.field.specs.Outcome.{firstOf, Outcome, corrected, unlessRefused}
+use Rattle.refusals.specs.Outcome.{firstOf, Outcome, unlessRefused}
+use Rattle.field.specs.Added.{corrected}
 use Rattle.field.proofs.Entries.{corrected-elsewhere}
 use Rattle.bodies.specs.declared.Body.{Body}
 use Rattle.corrections.specs.Corrections.{Counts, corrections}

@@ -3,8 +3,9 @@ use mathlib.Core.Path.{_≡_}
 use mathlib.Core.List.{List, [], _∷_}
 use lib.IntN.{ℤ, pos, negℤ}
 use Rattle.choices.specs.declared.LoveModel.the-variants.{Anelastic}
-use Rattle.field.specs.Field.{size, shaped, place, inRange, everyInRange, fieldRefusal}
-use Rattle.field.specs.Outcome.{firstOf, corrected, unlessRefused}
+use Rattle.field.specs.Field.{size, shapedBy, place, everyInRange, fieldRefusal}
+use Rattle.refusals.specs.Outcome.{firstOf, unlessRefused}
+use Rattle.field.specs.Added.{corrected}
 use Rattle.permanent.specs.Systems.{permanentPart}
 use Rattle.corrections.proofs.Example.{moon, sun, moon-and-sun}
 use Rattle.step_one.specs.StepOne.{places, correctedRun, withoutPermanent, stepOne}
@@ -26,5 +27,5 @@ pub on-a-field : stepOne 4 zeros zeros moon sun Anelastic ≡
           ∷ pos 0 ∷ negℤ (pos 5061) ∷ pos 13217 ∷ pos 22539
           ∷ pos 0 ∷ pos 1896 ∷ negℤ (pos 5790) ∷ pos 0 ∷ pos 0 ∷ [];
     }
-unfolding stepOne firstOf unlessRefused fieldRefusal shaped size everyInRange inRange places place correctedRun corrected withoutPermanent permanentPart
+unfolding stepOne firstOf unlessRefused fieldRefusal shapedBy size everyInRange places place correctedRun corrected withoutPermanent permanentPart
 on-a-field = rw (moon-and-sun Anelastic)

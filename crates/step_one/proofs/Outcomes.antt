@@ -7,16 +7,17 @@ use native.Mathlib.Omega.{arith}
 use lib.IntN.{ℤ}
 use lib.ListN.{length}
 use Rattle.choices.specs.declared.LoveModel.{LoveModel}
-use Rattle.choices.specs.declared.Answer.{Answer}
-use Rattle.choices.specs.declared.Answer.the-variants.{Refused}
-use Rattle.choices.specs.declared.Refusal.{Refusal}
-use Rattle.choices.specs.Numbers.{refusalNumber, answerNumber}
-use Rattle.choices.specs.Numbers.Told.{accepted}
-use Rattle.choices.proofs.Numbers.{refusal-not-zero}
+use Rattle.refusals.specs.declared.Answer.{Answer}
+use Rattle.refusals.specs.declared.Answer.the-variants.{Refused}
+use Rattle.refusals.specs.declared.Refusal.{Refusal}
+use Rattle.refusals.specs.Numbers.{refusalNumber, answerNumber}
+use Rattle.refusals.specs.Told.Told.{accepted}
+use Rattle.refusals.proofs.Numbers.{refusal-not-zero}
 use Rattle.field.specs.Field.{size, place, everyInRange, fieldRefusal}
-use Rattle.field.specs.Outcome.{firstOf, unlessRefused, Gives}
+use Rattle.refusals.specs.Outcome.{firstOf, unlessRefused, Gives}
 use Rattle.field.proofs.Entries.{entry-in-range}
-use Rattle.field.proofs.Outcomes.{place-below, gives-new, gives-kept, first-kept}
+use Rattle.field.proofs.Accepted.{place-below}
+use Rattle.refusals.proofs.Outcomes.{gives-new, gives-kept, first-kept}
 use Rattle.bodies.specs.declared.Body.{Body}
 use Rattle.corrections.specs.declared.Corrections.{Corrections}
 use Rattle.corrections.specs.Corrections.{Counts, corrections, tells}

@@ -16,7 +16,7 @@ use mir.Val.{toZ, ofZ}
 use mir.Facts.{toZ-ofZ}
 use Rattle.whole.specs.Sum.{allTo}
 use Rattle.whole.proofs.Parts.{fits-abs}
-use Rattle.field.specs.Outcome.{corrected}
+use Rattle.field.specs.Added.{corrected}
 use Rattle.field.proofs.Entries.{corrected-length, corrected-elsewhere}
 use Rattle.step_one.specs.StepOne.{places, correctedRun}
 use Rattle.step_one.specs.Ready.{Ready}

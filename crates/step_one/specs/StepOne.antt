@@ -4,10 +4,11 @@ use Prim.Native.Nat.{ℕ, zero, suc}
 use lib.IntN.{ℤ, pos, _-ℤ_}
 use lib.ListN.{getD, set}
 use Rattle.choices.specs.declared.LoveModel.{LoveModel}
-use Rattle.choices.specs.Numbers.{Told}
-use Rattle.choices.specs.Numbers.Told.{accepted, refused}
+use Rattle.refusals.specs.Told.{Told}
+use Rattle.refusals.specs.Told.Told.{accepted, refused}
 use Rattle.field.specs.Field.{place, fieldRefusal}
-use Rattle.field.specs.Outcome.{Outcome, corrected, firstOf, unlessRefused}
+use Rattle.refusals.specs.Outcome.{Outcome, firstOf, unlessRefused}
+use Rattle.field.specs.Added.{corrected}
 use Rattle.permanent.specs.Systems.{permanentPart}
 use Rattle.bodies.specs.declared.Body.{Body}
 use Rattle.corrections.specs.Corrections.{Counts, corrections}

@@ -1,16 +1,16 @@
 // Solid tide, step one (001, eqs. 1 to 7; document 01, "Step one"): the Moon's and the Sun's corrections, added to a field.
 ghost use mathlib.Core.Path.{_≡_};
-ghost use Rattle.choices.specs.Numbers.{answerNumber};
-ghost use Rattle.field.specs.Outcome.{Gives};
+ghost use Rattle.refusals.specs.Numbers.{answerNumber};
+ghost use Rattle.refusals.specs.Outcome.{Gives};
 ghost use Rattle.step_one.specs.StepOne.{withoutPermanent, correctedRun, stepOne};
 ghost use Rattle.step_one.specs.Ready.{Small, Ready};
 use bodies::Body;
-use choices::Answer;
 use choices::LoveModel;
 use corrections::corrections_of;
 use field::correct;
 use field::tested;
 use permanent::permanent_part;
+use refusals::Answer;
 
 // The place of C20; the others that step one corrects follow it.
 const FIRST: usize = 3;

@@ -8,9 +8,9 @@ use lib.ListN.{length, getD}
 use Rattle.arguments.specs.declared.Phases.{Phases}
 use Rattle.choices.specs.declared.LoveModel.{LoveModel}
 use Rattle.field.specs.Field.{place, fieldRefusal}
-use Rattle.field.specs.Outcome.{corrected}
+use Rattle.field.specs.Added.{corrected}
 use Rattle.field.proofs.Entries.{corrected-length, corrected-here, corrected-elsewhere}
-use Rattle.field.proofs.Outcomes.{gives-new}
+use Rattle.refusals.proofs.Outcomes.{gives-new}
 use Rattle.step_two.specs.declared.Corrections.{Corrections}
 use Rattle.step_two.specs.StepTwo.{corrections, addedC, addedS, stepTwo}
 

@@ -7,7 +7,8 @@ use Rattle.arguments.specs.Phase.{phase}
 use Rattle.choices.specs.declared.LoveModel.{LoveModel}
 use Rattle.choices.specs.declared.LoveModel.the-variants.{Elastic, Anelastic}
 use Rattle.field.specs.Field.{place, fieldRefusal}
-use Rattle.field.specs.Outcome.{corrected, unlessRefused, Outcome}
+use Rattle.field.specs.Added.{corrected}
+use Rattle.refusals.specs.Outcome.{unlessRefused, Outcome}
 use Rattle.lines.specs.Lines.{lineAt, multipliersAt}
 use Rattle.wave.specs.Wave.{sin, cos}
 use Rattle.whole.specs.Nearest.{nearest}

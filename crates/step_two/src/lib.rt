@@ -2,15 +2,15 @@
 ghost use mathlib.Core.Path.{_≡_};
 ghost use Prim.Native.Nat.{_+_, _≤_, _<_};
 ghost use lib.IntN.{_*ℤ_};
-ghost use Rattle.choices.specs.Numbers.{answerNumber};
-ghost use Rattle.field.specs.Outcome.{Gives};
+ghost use Rattle.refusals.specs.Numbers.{answerNumber};
+ghost use Rattle.refusals.specs.Outcome.{Gives};
 ghost use Rattle.wave.specs.Wave.{sin, cos};
 ghost use Rattle.whole.specs.Sum.{sumTo};
 ghost use Rattle.step_two.specs.StepTwo.{inCounts, columnOf, linePhase, sumC20, corrections, addedC, addedS, stepTwo};
 ghost use Rattle.step_two.specs.Room.{Room, Small};
 use arguments::Phases;
-use choices::Answer;
 use choices::LoveModel;
+use refusals::Answer;
 
 // The two printed amplitudes of a line.
 pub enum Column {
@@ -98,11 +98,11 @@ pub fn corrections_of(b: Phases, love: LoveModel) -> Corrections
     let diurnal = band_sums(b, 0, 26, column, column);
     let semidiurnal = band_sums(b, 47, 2, Column::First, Column::First);
     Corrections {
-        c20: whole::nearest_30(long_period(b, love)),
-        c21: whole::nearest_30(diurnal.sines),
-        s21: whole::nearest_30(diurnal.cosines),
-        c22: whole::nearest_30(semidiurnal.cosines),
-        s22: whole::nearest_30(-semidiurnal.sines),
+        c20: whole::nearest_of(long_period(b, love), 1073741824),
+        c21: whole::nearest_of(diurnal.sines, 1073741824),
+        s21: whole::nearest_of(diurnal.cosines, 1073741824),
+        c22: whole::nearest_of(semidiurnal.cosines, 1073741824),
+        s22: whole::nearest_of(-semidiurnal.sines, 1073741824),
     }
 }
 

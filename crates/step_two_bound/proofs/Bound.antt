@@ -12,7 +12,7 @@ use Rattle.arguments.specs.declared.Phases.{Phases}
 use Rattle.choices.specs.declared.LoveModel.{LoveModel}
 use Rattle.choices.specs.declared.LoveModel.the-variants.{Elastic, Anelastic}
 use Rattle.field.specs.Field.{place, fieldRefusal}
-use Rattle.field.proofs.Outcomes.{accepted-field, degree-two}
+use Rattle.field.proofs.Accepted.{accepted-field, degree-two}
 use Rattle.wave.specs.Wave.{sin, cos}
 use Rattle.series.specs.Exact.{bottom, factorial, denominator, scale, exact-sin, exact-cos}
 use Rattle.whole.proofs.Within.{Within, within-negated, within-nearest}

@@ -4,16 +4,17 @@ use mathlib.Core.List.{List}
 use Prim.Native.Nat.{ℕ}
 use lib.IntN.{ℤ}
 use Rattle.arguments.specs.declared.Multipliers.{Multipliers}
-use Rattle.choices.specs.declared.Answer.{Answer}
-use Rattle.choices.specs.Numbers.{answerNumber, Told}
-use Rattle.choices.specs.Numbers.Told.{accepted, refused}
-use Rattle.choices.proofs.Numbers.{refusal-of, refusal-again, same-answer}
+use Rattle.refusals.specs.declared.Answer.{Answer}
+use Rattle.refusals.specs.Numbers.{answerNumber}
+use Rattle.refusals.specs.Told.{Told}
+use Rattle.refusals.specs.Told.Told.{accepted, refused}
+use Rattle.refusals.proofs.Numbers.{refusal-of, refusal-again, same-answer}
 use Rattle.doodson.specs.declared.Read.{Read}
 use Rattle.doodson.specs.declared.Read.the-variants as read
 use Rattle.doodson.specs.declared.Written.{Written}
 use Rattle.doodson.specs.declared.Written.the-variants as written
 use Rattle.doodson.specs.Doodson.{tellsRead, tellsWritten}
-use Rattle.field.specs.Outcome.{Outcome, Gives}
+use Rattle.refusals.specs.Outcome.{Outcome, Gives}
 use Rattle.lines.specs.declared.Sought.{Sought}
 use Rattle.lines.specs.declared.Sought.the-variants as sought
 use Rattle.lines.specs.Lines.{Found, tells as tellsSought}

@@ -10,8 +10,8 @@ use Rattle.choices.specs.declared.Frame.{Frame}
 use Rattle.choices.specs.declared.LoveModel.{LoveModel}
 use Rattle.corrections.specs.Corrections.{corrections}
 use Rattle.field.specs.Field.{fieldRefusal}
-use Rattle.field.specs.Outcome.{firstOf}
-use Rattle.field.proofs.Outcomes.{outcome-number, refused-untouched}
+use Rattle.refusals.specs.Outcome.{firstOf}
+use Rattle.refusals.proofs.Outcomes.{outcome-number, refused-untouched}
 use Rattle.ocean.specs.Ocean.{oceanRefusal, oceanTide}
 use Rattle.step_one.specs.StepOne.{refusalOf, stepOne}
 use Rattle.step_two.specs.StepTwo.{stepTwo}

@@ -2,9 +2,9 @@
 // A field of degree n is two lent lists of counts of 10^-15, C and S, of (n+1)(n+2)/2 entries, place (n,m) at n(n+1)/2+m.
 // A call over a field answers Accepted, or Refused with every entry of both lists as it was.
 ghost use mathlib.Core.Path.{_≡_};
-ghost use Rattle.choices.specs.Numbers.{answerNumber};
+ghost use Rattle.refusals.specs.Numbers.{answerNumber};
 ghost use Rattle.doodson.specs.Doodson.{readDoodson, writeDoodson, tellsRead, tellsWritten};
-ghost use Rattle.field.specs.Outcome.{Gives};
+ghost use Rattle.refusals.specs.Outcome.{Gives};
 ghost use Rattle.lines.specs.Lines.{findLine, tells as tellsSought};
 ghost use Rattle.ocean.specs.Ocean.{oceanTide};
 ghost use Rattle.permanent.specs.Systems.{movedC20, tells as tellsMoved};
@@ -13,7 +13,6 @@ ghost use Rattle.step_two.specs.StepTwo.{stepTwo};
 use arguments::Multipliers;
 use arguments::Phases;
 use bodies::Body;
-use choices::Answer;
 use choices::Frame;
 use choices::LoveModel;
 use choices::PermanentSystem;
@@ -21,6 +20,7 @@ use doodson::Read;
 use doodson::Written;
 use lines::Sought;
 use permanent::Moved;
+use refusals::Answer;
 
 // Solid tide, step one (001, eqs. 1 to 7; document 01, "Step one").
 // Given: a field, the Moon, the Sun, the Love model.

@@ -1,8 +1,6 @@
 // Text in a lent buffer: bytes, words and decimal numbers, each put at a place; the answer is the place after it.
-ghost use mathlib.Core.Path.{_≡_};
 ghost use mathlib.Core.List.{[], _∷_};
 ghost use Prim.Native.Nat.{_+_, _≤_, _<_};
-ghost use lib.IntN.{natAbs};
 ghost use lib.ListN.{length};
 ghost use Rattle.text.specs.Text.{decimal, number};
 ghost use Rattle.text.specs.Inner.{Put};
@@ -42,13 +40,6 @@ pub fn put_decimal(out: &mut [u8], at: usize, n: u64) -> usize
     }
 }
 
-// A number without its sign, that of -2^63 too: -1 - z fits where -z does not.
-pub fn magnitude(z: i64) -> u64
-    ensures { λ r. ⌜ r ≡ natAbs z ⌝ }
-{
-    if z < 0 { (-1 - z) as u64 + 1 } else { z as u64 }
-}
-
 // Puts a number in decimal, a negative one after its sign.
 pub fn put_number(out: &mut [u8], at: usize, z: i64) -> usize
     requires { ⌜ at + length (number z) ≤ length (now out) ⌝ }
@@ -56,8 +47,8 @@ pub fn put_number(out: &mut [u8], at: usize, z: i64) -> usize
 {
     if z < 0 {
         let next = put_byte(out, at, b'-');
-        put_decimal(out, next, magnitude(z))
+        put_decimal(out, next, whole::size_of(z))
     } else {
-        put_decimal(out, at, magnitude(z))
+        put_decimal(out, at, whole::size_of(z))
     }
 }

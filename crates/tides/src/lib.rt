@@ -55,7 +55,7 @@ pub fn factors_of(sheet: &[u8], l: Layout, waves: &[i64; 128]) -> [i64; 32]
     let mut factors = [0i64; 32];
     let mut k: usize = 0;
     while k < tides {
-        factors[k] = whole::nearest_million(line_sum(sheet, l, k, waves));
+        factors[k] = whole::nearest_of(line_sum(sheet, l, k, waves), 1000000);
         k += 1;
     }
     factors

@@ -1,24 +1,54 @@
--- What is known of `nearest`, and all that anything else cites of it: a change of its rule is a change of this file.
-use mathlib.Core.Path.{_≡_, ap, _∙_}
-use Prim.Native.Nat.{ℕ, _+_, _*_, _≤_, _<_}
-use native.Mathlib.Nat.{mul-le-mul-left, lt-of-mul-lt-mul-left}
+-- What is known of `nearest`, and all that anything else cites of it: which way a half goes stands in the first two laws.
+use mathlib.Core.Path.{_≡_, refl, ap, _∙_}
+use Prim.Native.Nat.{ℕ, zero, suc, _+_, _-_, _*_, _/_, _≤_, _<_}
+use native.Mathlib.Nat.{mul-le-mul-left, lt-of-mul-lt-mul-left, div-mul-le-self, lt-div-mul-add}
 use native.Mathlib.Omega.{arith}
 use mathlib.Core.List.{[], _∷_}
-use lib.IntN.{ℤ, pos, natAbs, _+ℤ_, _-ℤ_, _*ℤ_, -ℤ-+ℤ-cancel}
+use lib.IntN.{ℤ, pos, negℤ, natAbs, _+ℤ_, _-ℤ_, _*ℤ_, -ℤ-+ℤ-cancel}
 use lib.Signed.{shrZ}
 use Rattle.whole.specs.Nearest.{nearest}
-use Rattle.whole.proofs.Parts.{same, sum, difference, product, abs-twice, abs-sum, abs-product, floored}
+use Rattle.whole.proofs.Parts.{up, dn, up-neg, dn-neg, sum, difference, product, abs-twice, abs-sum, abs-product, floored}
 use Rattle.whole.proofs.Ring.{equal, !, _⊕_, _⊖_, _⊗_}
-use Rattle.whole.proofs.Floor.{halved}
+use Rattle.whole.proofs.Floor.{only-floor}
 
--- over an even divisor half of it is added before the floor, as the code has it
-pub nearest-even : (z : ℤ) (h : ℕ) → 0 < h → nearest z (2 * h) ≡ shrZ (z +ℤ pos h) (2 * h)
+-- of a number that is not negative: half the divisor is added
+pub nearest-above : (a n : ℕ) → 0 < n → nearest (pos a) n ≡ pos ((a + n / 2) / n)
 unfolding nearest
-nearest-even z h l =
-    let twice : z +ℤ z +ℤ pos (2 * h) ≡ (z +ℤ pos h) +ℤ (z +ℤ pos h) =
-    same (z +ℤ z +ℤ pos (2 * h)) ((z +ℤ pos h) +ℤ (z +ℤ pos h))
-    (omega (arith, sum (z +ℤ z) (pos (2 * h)), sum z z, sum z (pos h), sum (z +ℤ pos h) (z +ℤ pos h))) in
-    ap (λ (x : ℤ). shrZ x (2 * (2 * h))) twice ∙ halved (z +ℤ pos h) (2 * h) (omega arith)
+nearest-above a n l =
+    let q = (a + n / 2) / n in
+    let Z = pos a +ℤ pos a +ℤ pos n in
+    only-floor {z = Z} {m = 2 * n} (shrZ Z (2 * n)) (pos q) (floored Z (2 * n) (omega arith))
+    (record {
+      floor = omega (arith, div-mul-le-self (a + n / 2) n, lt-div-mul-add {a = a + n / 2} {b = n} l);
+      roof = omega (arith, div-mul-le-self (a + n / 2) n, lt-div-mul-add {a = a + n / 2} {b = n} l);
+    })
+
+-- of one that is not positive: half the divisor is added to its size, but a half goes up
+pub nearest-below : (a n : ℕ) → 0 < n → nearest (negℤ (pos a)) n ≡ negℤ (pos ((a + (n - 1) / 2) / n))
+unfolding nearest
+nearest-below a n l =
+    let q = (a + (n - 1) / 2) / n in
+    let z = negℤ (pos a) in
+    let Z = z +ℤ z +ℤ pos n in
+    let A = sum (z +ℤ z) (pos n) in
+    let B = sum z z in
+    let U = up-neg (pos a) in
+    let D = dn-neg (pos a) in
+    let u : up (negℤ (pos q)) ≡ 0 = up-neg (pos q) in
+    let d : dn (negℤ (pos q)) ≡ q = dn-neg (pos q) in
+    only-floor {z = Z} {m = 2 * n} (shrZ Z (2 * n)) (negℤ (pos q)) (floored Z (2 * n) (omega arith))
+    (record {
+      floor = rw (u, d) (omega (arith, div-mul-le-self (a + (n - 1) / 2) n, lt-div-mul-add {a = a + (n - 1) / 2} {b = n} l));
+      roof = rw (u, d) (omega (arith, div-mul-le-self (a + (n - 1) / 2) n, lt-div-mul-add {a = a + (n - 1) / 2} {b = n} l));
+    })
+
+-- of nothing
+pub nearest-zero : (n : ℕ) → 0 < n → nearest (pos 0) n ≡ pos 0
+nearest-zero n l = nearest-above 0 n l ∙ ap pos (let h = div-mul-le-self (0 + n / 2) n in lt-one ((0 + n / 2) / n) n (omega (arith, h)))
+  where
+    lt-one : (q n : ℕ) → q * n * 2 < 2 * n → q ≡ 0
+    lt-one zero n h = refl
+    lt-one (suc q) n h = absurd (omega arith)
 
 -- the nearest is within one half
 pub nearest-near : (z : ℤ) (n : ℕ) → 0 < n → 2 * natAbs (nearest z n *ℤ pos n -ℤ z) ≤ n

@@ -4,21 +4,24 @@ ghost use Prim.Native.Nat.{_+_, _*_, _^_, _≤_, _<_};
 ghost use lib.IntN.{natAbs, _+ℤ_, _*ℤ_};
 ghost use Rattle.whole.specs.Nearest.{nearest};
 
-// The whole number nearest x / 2^30.
-pub fn nearest_30(x: i64) -> i64
-    requires { ⌜ natAbs x ≤ 2 ^ 62 ⌝ }
-    ensures { λ r. ⌜ r ≡ nearest x (2 ^ 30) ⌝ }
+// The size of a number, of -2^63 too: -1 - z fits where -z does not.
+pub fn size_of(z: i64) -> u64
+    ensures { λ r. ⌜ r ≡ natAbs z ⌝ }
 {
-    (x + 536870912) >> 30
+    if z < 0 { (-1 - z) as u64 + 1 } else { z as u64 }
 }
 
-// The whole number nearest x / 10^6. 2^40 millions are added, which makes the sum positive, and 2^40 is taken off its quotient.
-pub fn nearest_million(x: i64) -> i64
-    requires { ⌜ natAbs x < 2 ^ 59 ⌝ }
-    ensures { λ r. ⌜ r ≡ nearest x (10 ^ 6) ⌝ }
+// The whole number nearest x / n. Below zero a half goes up, to what is smaller in size.
+pub fn nearest_of(x: i64, n: u64) -> i64
+    requires { ⌜ (0 < n) × (natAbs x + n < 2 ^ 63) ⌝ }
+    ensures { λ r. ⌜ r ≡ nearest x n ⌝ }
 {
-    let sum = (x + 1099511627776500000) as u64;
-    (sum / 1000000) as i64 - 1099511627776
+    let size = size_of(x);
+    if x < 0 {
+        -(((size + (n - 1) / 2) / n) as i64)
+    } else {
+        ((size + n / 2) / n) as i64
+    }
 }
 
 // A running sum with one product more.

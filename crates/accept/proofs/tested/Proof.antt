@@ -2,10 +2,10 @@
 use mathlib.Core.Bool.{cond}
 use mathlib.Core.Path.{_≡_, sym, ap, _∙_}
 use borrow.Author.Needs.{needs}
-use Rattle.choices.specs.Numbers.{answerNumber}
-use Rattle.choices.proofs.Numbers.{refusal-not-zero}
+use Rattle.refusals.specs.Numbers.{answerNumber}
+use Rattle.refusals.proofs.Numbers.{refusal-not-zero}
 use Rattle.sheet.specs.Accepted.{reached, ownRefusal, sheetRefusal}
-use Rattle.field.proofs.Outcomes.{first-passed, first-kept}
+use Rattle.refusals.proofs.Outcomes.{first-passed, first-kept}
 use Rattle.sheet.proofs.Acceptance.{accepted}
 use Rattle.accept.proofs.tested.Statement.{statement}
 use Rattle.accept.proofs.tested.Tie as tie

@@ -3,7 +3,7 @@ use borrow.Author.Needs.{needs}
 use mathlib.Core.Path.{_≡_, refl, sym, ap, _∙_}
 use mir.Syntax.{w64}
 use mir.Facts.{toZ-ofZ}
-use Rattle.choices.specs.Numbers.Told.{accepted}
+use Rattle.refusals.specs.Told.Told.{accepted}
 use Rattle.permanent.specs.Systems.{movedC20, tells}
 use Rattle.whole.proofs.Machine.{back}
 use Rattle.boundary.specs.Choices.{loveModel, permanentSystem, tellsModel, tellsSystem}

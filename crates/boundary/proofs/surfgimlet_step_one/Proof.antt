@@ -1,7 +1,7 @@
 -- The model and both bodies, where each has a kind that is named, go on to the call; else it is answered at once.
 use borrow.Author.Needs.{needs}
 use mathlib.Core.Path.{_≡_, refl, sym, ap, _∙_}
-use Rattle.choices.specs.Numbers.Told.{accepted}
+use Rattle.refusals.specs.Told.Told.{accepted}
 use Rattle.boundary.specs.Choices.{loveModel, bodyOf, tellsModel, tellsBody}
 use Rattle.boundary.specs.Calls.{stepOneGiven}
 use Rattle.boundary.proofs.surfgimlet_step_one.Statement.{statement}

@@ -1,7 +1,7 @@
 -- A number that passes its test has its multipliers.
 use borrow.Author.Needs.{needs}
 use mathlib.Core.Path.{refl, sym, ap, _∙_}
-use Rattle.choices.specs.Numbers.Told.{accepted}
+use Rattle.refusals.specs.Told.Told.{accepted}
 use Rattle.doodson.specs.Doodson.{readDoodson}
 use Rattle.doodson.proofs.multipliers_of.Statement.{statement}
 use Rattle.doodson.proofs.multipliers_of.Tie as tie

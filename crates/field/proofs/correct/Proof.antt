@@ -9,7 +9,7 @@ use mir.Val.{SFits}
 use mir.Facts.{toZ-ofZ}
 use Rattle.whole.proofs.Parts.{fits-abs}
 use Rattle.whole.proofs.Machine.{sum-fits}
-use Rattle.field.specs.Outcome.{corrected}
+use Rattle.field.specs.Added.{corrected}
 use Rattle.field.proofs.correct.Statement.{statement}
 use Rattle.field.proofs.correct.Tie as tie
 

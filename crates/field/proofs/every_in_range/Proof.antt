@@ -23,8 +23,8 @@ mul-x c = search needs
 shared-slice-copy-out-x : tie.Need-shared-slice-copy-out-x Inv-loop μ-loop
 shared-slice-copy-out-x c = search needs
 
-in-range-requires : tie.Need-in-range-requires Inv-loop μ-loop
-in-range-requires c κs = search needs
+is-entry-requires : tie.Need-is-entry-requires Inv-loop μ-loop
+is-entry-requires c κs = search needs
 
 add-i : tie.Need-add-i Inv-loop μ-loop
 add-i c = search needs
@@ -35,12 +35,12 @@ loop-less c = search needs
 loop-again : tie.Need-loop-again Inv-loop μ-loop
 loop-again c =
     let a = c .before .before .before .before in
-    (search needs, a .loop .inv .1 ∙ every-next (a .before .args .list .now) (a .loop .i) _ (c .before .before .before .loop-test .taken) (c .before .before .x .given) (c .before .in-range .ensures) (c .if1 .taken))
+    (search needs, a .loop .inv .1 ∙ every-next (a .before .args .list .now) (a .loop .i) _ (c .before .before .before .loop-test .taken) (c .before .before .x .given) (c .before .is-entry .ensures) (c .if1 .taken))
 
 returns : tie.Need-returns Inv-loop μ-loop
 returns c =
     let a = c .before .before .before .before in
-    sym (a .loop .inv .1 ∙ every-stop (a .before .args .list .now) (a .loop .i) _ (c .before .before .before .loop-test .taken) (c .before .before .x .given) (c .before .in-range .ensures) (c .if1 .left))
+    sym (a .loop .inv .1 ∙ every-stop (a .before .args .list .now) (a .loop .i) _ (c .before .before .before .loop-test .taken) (c .before .before .x .given) (c .before .is-entry .ensures) (c .if1 .left))
 
 returns-2 : tie.Need-returns-2 Inv-loop μ-loop
 returns-2 c = sym (c .before .loop .inv .1 ∙ every-end _ _ (c .loop-test .left) (c .before .loop .inv .0))
@@ -48,4 +48,4 @@ returns-2 c = sym (c .before .loop .inv .1 ∙ every-end _ _ (c .loop-test .left
 pub every-in-range-spec : {M : Type 1} → statement M
 every-in-range-spec =
     tie.close
-    (tie.spec Inv-loop μ-loop loop-holds mul-x shared-slice-copy-out-x in-range-requires add-i loop-less loop-again returns returns-2)
+    (tie.spec Inv-loop μ-loop loop-holds mul-x shared-slice-copy-out-x is-entry-requires add-i loop-less loop-again returns returns-2)

@@ -3,9 +3,9 @@ use mathlib.Core.List.{List}
 use mathlib.Core.Path.{_≡_, sym, ap, _∙_}
 use borrow.Author.Needs.{needs}
 use lib.IntN.{ℤ}
-use Rattle.choices.specs.Numbers.{answerNumber}
-use Rattle.choices.proofs.Numbers.{refusal-not-zero}
-use Rattle.field.proofs.Outcomes.{gives-new, gives-kept}
+use Rattle.refusals.specs.Numbers.{answerNumber}
+use Rattle.refusals.proofs.Numbers.{refusal-not-zero}
+use Rattle.refusals.proofs.Outcomes.{gives-new, gives-kept}
 use Rattle.sheet.specs.Sheet.{placeCount}
 use Rattle.ocean.specs.Ocean.{dC, dS, oceanRefusal, oceanTide}
 use Rattle.places.specs.Places.{added}

@@ -1,9 +1,9 @@
 -- A field that passes is asked for its sheet; any other keeps its refusal.
 use mathlib.Core.Path.{sym, ap, _∙_}
 use borrow.Author.Needs.{needs}
-use Rattle.choices.specs.Numbers.{answerNumber}
-use Rattle.choices.proofs.Numbers.{refusal-not-zero}
-use Rattle.field.proofs.Outcomes.{first-passed, first-kept}
+use Rattle.refusals.specs.Numbers.{answerNumber}
+use Rattle.refusals.proofs.Numbers.{refusal-not-zero}
+use Rattle.refusals.proofs.Outcomes.{first-passed, first-kept}
 use Rattle.ocean.specs.Ocean.{oceanRefusal}
 use Rattle.ocean.proofs.tested.Statement.{statement}
 use Rattle.ocean.proofs.tested.Tie as tie

@@ -9,15 +9,15 @@ use lib.IntN.{ℤ, natAbs, _+ℤ_, _-ℤ_}
 use mir.Syntax.{w64}
 use mir.Val.{SFits, toZ, ofZ}
 use mir.Facts.{toZ-ofZ}
-use Rattle.field.specs.Field.{inRange}
+use Rattle.limits.specs.Limits.{isEntry}
 use Rattle.whole.proofs.Machine.{back, sum-fits, difference-fits, abs-difference}
 use Rattle.permanent.specs.Systems.{aboveTideFree, movedC20}
 use Rattle.permanent.proofs.Constants.{above-small}
 use Rattle.permanent.proofs.move_c20.Statement.{statement}
 use Rattle.permanent.proofs.move_c20.Tie as tie
 
-in-range-requires : tie.Need-in-range-requires
-in-range-requires c κs = search needs
+is-entry-requires : tie.Need-is-entry-requires
+is-entry-requires c κs = search needs
 
 above-tide-free-requires : tie.Need-above-tide-free-requires
 above-tide-free-requires c κs = search needs
@@ -33,11 +33,10 @@ module _ (c : tie.After-above-tide-free) where
   abbrev c20 : ℤ
   c20 = start .args .c20
 
-  passed : inRange c20 ≡ true
-  passed = ap inRange (sym (toZ-ofZ (start .fits .c20))) ∙ sym (c .before .before .in-range .ensures) ∙ c .before .if1 .taken
+  passed : isEntry c20 ≡ true
+  passed = ap isEntry (sym (toZ-ofZ (start .fits .c20))) ∙ sym (c .before .before .is-entry .ensures) ∙ c .before .if1 .taken
 
   small : natAbs c20 ≤ 2 ^ 60
-  unfolding inRange
   small = leb-true (natAbs c20) (2 ^ 60) passed
 
   abbrev have : ℤ
@@ -77,9 +76,9 @@ returns-2 : tie.Need-returns-2
 unfolding movedC20
 returns-2 c =
     let s = c .before .before in
-    rw (ap inRange (sym (toZ-ofZ (s .fits .c20))) ∙ sym (c .before .in-range .ensures) ∙ c .if1 .left) refl
+    rw (ap isEntry (sym (toZ-ofZ (s .fits .c20))) ∙ sym (c .before .is-entry .ensures) ∙ c .if1 .left) refl
 
 pub move-c20-spec : {M : Type 1} → statement M
 move-c20-spec =
     tie.close
-    (tie.spec in-range-requires above-tide-free-requires sub-t8 above-tide-free-requires-2 add-t10 returns returns-2)
+    (tie.spec is-entry-requires above-tide-free-requires sub-t8 above-tide-free-requires-2 add-t10 returns returns-2)

@@ -9,7 +9,7 @@ use lib.ListN.{length, getD}
 use mir.Syntax.{w64}
 use mir.Val.{toZ, ofZ}
 use Rattle.field.proofs.Entries.{entry-in-range}
-use Rattle.field.specs.Outcome.{corrected}
+use Rattle.field.specs.Added.{corrected}
 use Rattle.sheet.specs.Sheet.{placeCount}
 use Rattle.sheet.proofs.Acceptance.{Accepted, accepted, index}
 use Rattle.sheet.proofs.Signs.{told}

@@ -58,18 +58,18 @@ column-sum-requires c κs = search needs
 column-sum-requires-2 : tie.Need-column-sum-requires-2
 column-sum-requires-2 c κs = search needs
 
-add-nearest-30 : tie.Need-add-nearest-30
-add-nearest-30 c = rw (total-is c) (total-fits c)
+add-nearest-of : tie.Need-add-nearest-of
+add-nearest-of c = rw (total-is c) (total-fits c)
 
-nearest-30-requires : tie.Need-nearest-30-requires
-nearest-30-requires c κs = rw (total-is c, toZ-ofZ (total-fits c)) (total-small c)
+nearest-of-requires : tie.Need-nearest-of-requires
+nearest-of-requires c κs = rw (total-is c, toZ-ofZ (total-fits c)) (omega arith, omega (arith, total-small c))
 
 returns-2 : tie.Need-returns-2
 unfolding correction unlessSkipped
 returns-2 c =
     let a = c .before in
     let e = ap (λ (z : ℤ). toZ w64 (ofZ w64 z)) (total-is a) ∙ toZ-ofZ (total-fits a) in
-    rw (sym (skip-told (a .before .before .before)) ∙ a .before .before .if1 .left) (told w64 (c .nearest-30 .ok) (c .nearest-30 .ensures ∙ ap (λ (z : ℤ). nearest z (2 ^ 30)) e))
+    rw (sym (skip-told (a .before .before .before)) ∙ a .before .before .if1 .left) (told w64 (c .nearest-of .ok) (c .nearest-of .ensures ∙ ap (λ (z : ℤ). nearest z (2 ^ 30)) e))
 
 pub correction-of-spec : {M : Type 1} → statement M
 correction-of-spec =
@@ -80,6 +80,6 @@ correction-of-spec =
     returns
     column-sum-requires
     column-sum-requires-2
-    add-nearest-30
-    nearest-30-requires
+    add-nearest-of
+    nearest-of-requires
     returns-2)

@@ -4,10 +4,10 @@ use mathlib.Core.Path.{_≡_, sym, ap, _∙_}
 use mathlib.Core.List.{List}
 use native.Mathlib.Omega.{arith}
 use lib.IntN.{ℤ}
-use Rattle.choices.specs.Numbers.{answerNumber}
-use Rattle.choices.specs.Numbers.Told.{accepted}
+use Rattle.refusals.specs.Numbers.{answerNumber}
+use Rattle.refusals.specs.Told.Told.{accepted}
 use Rattle.field.specs.Field.{fieldRefusal}
-use Rattle.field.proofs.Outcomes.{Accepted, accepted-field}
+use Rattle.field.proofs.Accepted.{Accepted, accepted-field}
 use Rattle.corrections.specs.Corrections.{Counts, corrections, told}
 use Rattle.corrections.proofs.Counted.{SmallCounts, accepted-small}
 use Rattle.step_one.specs.StepOne.{correctedRun}

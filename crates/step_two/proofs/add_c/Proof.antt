@@ -6,7 +6,7 @@ use Prim.Native.Nat.{ℕ, _≤_}
 use native.Mathlib.Omega.{arith}
 use lib.IntN.{ℤ}
 use Rattle.field.specs.Field.{place}
-use Rattle.field.specs.Outcome.{corrected}
+use Rattle.field.specs.Added.{corrected}
 use Rattle.field.proofs.Entries.{Open, open-entry, open-after}
 use Rattle.step_two.specs.StepTwo.{addedC}
 use Rattle.step_two.proofs.Bands.{same-count}

@@ -67,23 +67,23 @@ module _ (c : tie.After-long-period) where
   s22-held : SFits w64 (sumS22 sin cos b)
   s22-held = fits-abs w64 (sumS22 sin cos b) (omega (arith, s22-size b))
 
-nearest-30-requires : tie.Need-nearest-30-requires
-nearest-30-requires c κs = rw (c20 c) (omega (arith, c20-size (b c) (love c)))
+nearest-of-requires : tie.Need-nearest-of-requires
+nearest-of-requires c κs = rw (c20 c) (omega (arith, c20-size (b c) (love c)))
 
-nearest-30-requires-2 : tie.Need-nearest-30-requires-2
-nearest-30-requires-2 c κs = let a = c .before .before in rw (c21 a) (omega (arith, c21-size (b a) (love a)))
+nearest-of-requires-2 : tie.Need-nearest-of-requires-2
+nearest-of-requires-2 c κs = let a = c .before .before in rw (c21 a) (omega (arith, c21-size (b a) (love a)))
 
-nearest-30-requires-3 : tie.Need-nearest-30-requires-3
-nearest-30-requires-3 c κs = let a = c .before .before .before .before in rw (s21 a) (omega (arith, s21-size (b a) (love a)))
+nearest-of-requires-3 : tie.Need-nearest-of-requires-3
+nearest-of-requires-3 c κs = let a = c .before .before .before .before in rw (s21 a) (omega (arith, s21-size (b a) (love a)))
 
-nearest-30-requires-4 : tie.Need-nearest-30-requires-4
-nearest-30-requires-4 c κs = let a = c .before .before .before .before .before .before in rw (c22 a) (omega (arith, c22-size (b a)))
+nearest-of-requires-4 : tie.Need-nearest-of-requires-4
+nearest-of-requires-4 c κs = let a = c .before .before .before .before .before .before in rw (c22 a) (omega (arith, c22-size (b a)))
 
-sub-nearest-30 : tie.Need-sub-nearest-30
-sub-nearest-30 c = let a = c .before .before .before .before .before .before .before .before .before in rw (s22 a) (s22-held a)
+sub-nearest-of : tie.Need-sub-nearest-of
+sub-nearest-of c = let a = c .before .before .before .before .before .before .before .before .before in rw (s22 a) (s22-held a)
 
-nearest-30-requires-5 : tie.Need-nearest-30-requires-5
-nearest-30-requires-5 c κs =
+nearest-of-requires-5 : tie.Need-nearest-of-requires-5
+nearest-of-requires-5 c κs =
     let a = c .before .before .before .before .before .before .before .before .before in
     rw (s22 a, toZ-ofZ (s22-held a)) (omega (arith, s22-size (b a)))
 
@@ -96,11 +96,11 @@ unfolding corrections
 returns c =
     let n2 = c .before .before .before .before .before .before .before in
     let a = n2 .before .before .before in
-    let r1 = n2 .before .before .nearest-30 in
-    let r2 = n2 .nearest-302 in
-    let r3 = c .before .before .before .before .before .nearest-303 in
-    let r4 = c .before .before .before .nearest-304 in
-    let r5 = c .nearest-305 in
+    let r1 = n2 .before .before .nearest-of in
+    let r2 = n2 .nearest-of2 in
+    let r3 = c .before .before .before .before .before .nearest-of3 in
+    let r4 = c .before .before .before .nearest-of4 in
+    let r5 = c .nearest-of5 in
     λ i. record {
       c20 = answer _ _ _ (r1 .ok) (r1 .ensures) (c20 a) i;
       c21 = answer _ _ _ (r2 .ok) (r2 .ensures) (c21 a) i;
@@ -117,10 +117,10 @@ corrections-of-spec =
     band-sums-requires
     band-sums-requires-2
     long-period-requires
-    nearest-30-requires
-    nearest-30-requires-2
-    nearest-30-requires-3
-    nearest-30-requires-4
-    sub-nearest-30
-    nearest-30-requires-5
+    nearest-of-requires
+    nearest-of-requires-2
+    nearest-of-requires-3
+    nearest-of-requires-4
+    sub-nearest-of
+    nearest-of-requires-5
     returns)

@@ -1,10 +1,11 @@
 -- A field that passes has degree two's entries in range; a refused one is left alone.
 use borrow.Author.Needs.{needs}
 use mathlib.Core.Path.{_≡_, sym, ap, _∙_}
-use Rattle.choices.specs.Numbers.{answerNumber}
-use Rattle.choices.proofs.Numbers.{refusal-not-zero}
+use Rattle.refusals.specs.Numbers.{answerNumber}
+use Rattle.refusals.proofs.Numbers.{refusal-not-zero}
 use Rattle.field.specs.Field.{fieldRefusal}
-use Rattle.field.proofs.Outcomes.{Accepted, accepted-field, degree-two, gives-new, gives-kept}
+use Rattle.field.proofs.Accepted.{Accepted, accepted-field, degree-two}
+use Rattle.refusals.proofs.Outcomes.{gives-new, gives-kept}
 use Rattle.step_two.specs.Room.{Small}
 use Rattle.step_two.specs.StepTwo.{corrections, addedC, addedS, stepTwo}
 use Rattle.step_two.proofs.Bands.{corrections-small}

@@ -1,4 +1,4 @@
--- A negative number is its sign and then its magnitude in decimal, any other its magnitude.
+-- A negative number is its sign and then its size in decimal, any other its size.
 use borrow.Author.Needs.{needs}
 use mathlib.Core.Path.{_≡_, sym, ap, _∙_}
 use mathlib.Core.List.{_++_}
@@ -29,41 +29,41 @@ module _ (t : tie.Then1) where
 put-byte-requires : tie.Need-put-byte-requires
 put-byte-requires c κs = omega (arith, room (c .before))
 
-magnitude-requires : tie.Need-magnitude-requires
-magnitude-requires c κs = search needs
+size-of-requires : tie.Need-size-of-requires
+size-of-requires c κs = search needs
 
-module _ (c : tie.After-magnitude) where
+module _ (c : tie.After-size-of) where
   abbrev sign : tie.After-put-byte
   sign = c .before .before .before .before
 
   abbrev test : tie.Then1
   test = sign .before .before
 
-  size : c .magnitude .result ≡ natAbs (start test .args .z)
-  size = c .magnitude .ensures ∙ ap natAbs (toZ-ofZ (start test .fits .z))
+  size : c .size-of .result ≡ natAbs (start test .args .z)
+  size = c .size-of .ensures ∙ ap natAbs (toZ-ofZ (start test .fits .z))
 
 put-decimal-requires : tie.Need-put-decimal-requires
 put-decimal-requires c κs =
     rw (size c) (omega (arith, room (test c), put-length (sign c .put-byte .ensures), sign c .put-byte .ensures .next-is))
 
-magnitude-requires-2 : tie.Need-magnitude-requires-2
-magnitude-requires-2 c κs = search needs
+size-of-requires-2 : tie.Need-size-of-requires-2
+size-of-requires-2 c κs = search needs
 
 -- from zero on
-module _ (c : tie.After-magnitude2) where
+module _ (c : tie.After-size-of2) where
   abbrev start-2 : tie.Start
   start-2 = c .before .before .before .before
 
-  plain : number (start-2 .args .z) ≡ decimal (c .magnitude2 .result)
+  plain : number (start-2 .args .z) ≡ decimal (c .size-of2 .result)
   plain =
       from-zero (start-2 .args .z) (rw (toZ-ofZ (start-2 .fits .z)) at (c .before .before .if1 .left))
-      ∙ ap decimal (sym (c .magnitude2 .ensures ∙ ap natAbs (toZ-ofZ (start-2 .fits .z))))
+      ∙ ap decimal (sym (c .size-of2 .ensures ∙ ap natAbs (toZ-ofZ (start-2 .fits .z))))
 
 put-decimal-requires-2 : tie.Need-put-decimal-requires-2
 put-decimal-requires-2 c κs = rw (plain c) at (start-2 c .pre)
 
 module _ (c : tie.After-put-decimal) where
-  abbrev sized : tie.After-magnitude
+  abbrev sized : tie.After-size-of
   sized = c .before
 
   whole-number : Put (start (test sized) .args .out .now) (start (test sized) .args .at) (number (start (test sized) .args .z)) (c .put-decimal .last .0) (c .put-decimal .result)
@@ -87,9 +87,9 @@ put-number-spec =
     tie.close
     (tie.spec
     put-byte-requires
-    magnitude-requires
+    size-of-requires
     put-decimal-requires
-    magnitude-requires-2
+    size-of-requires-2
     put-decimal-requires-2
     same-length
     returns

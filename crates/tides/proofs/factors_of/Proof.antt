@@ -49,8 +49,8 @@ loop-holds c = (omega arith, search needs, holds-none _ _)
 line-sum-requires : tie.Need-line-sum-requires Inv-loop μ-loop
 line-sum-requires c κs = search needs
 
-nearest-million-requires : tie.Need-nearest-million-requires Inv-loop μ-loop
-nearest-million-requires c κs = rw (sum-read c) (total-small c)
+nearest-of-requires : tie.Need-nearest-of-requires Inv-loop μ-loop
+nearest-of-requires c κs = rw (sum-read c) (omega arith, omega (arith, total-small c))
 
 mul-factors : tie.Need-mul-factors Inv-loop μ-loop
 mul-factors c = omega (arith, tides-most (c .before .before .before .before .before))
@@ -72,7 +72,7 @@ loop-again c =
       omega arith,
       simp length-set (l .inv .1),
       holds-more _ (k b) (l .factors) (l .inv .2) (omega (arith, tides-most (start b)))
-          (told w64 (c .nearest-million .ok) (c .nearest-million .ensures ∙ ap (λ (z : ℤ). nearest z (10 ^ 6)) (sum-read b))),
+          (told w64 (c .nearest-of .ok) (c .nearest-of .ensures ∙ ap (λ (z : ℤ). nearest z (10 ^ 6)) (sum-read b))),
     )
 
 returns : tie.Need-returns Inv-loop μ-loop
@@ -88,7 +88,7 @@ factors-of-spec =
     μ-loop
     loop-holds
     line-sum-requires
-    nearest-million-requires
+    nearest-of-requires
     mul-factors
     array-set-from-factors
     add-k

@@ -1,0 +1,24 @@
+-- Document 01, "Refusal numbers".
+use Prim.Native.Nat.{ℕ}
+use Rattle.refusals.specs.declared.Refusal.{Refusal}
+use Rattle.refusals.specs.declared.Refusal.the-variants.{FieldShape, FieldRange, NotFinite, BodyRange, NotUnit, StepOneRange, SheetLength, SheetValue, SheetDegree, NotDoodson, NoSuchLine}
+use Rattle.refusals.specs.declared.Answer.{Answer}
+use Rattle.refusals.specs.declared.Answer.the-variants.{Accepted, Refused}
+
+abbrev pub refusalNumber : Refusal → ℕ
+refusalNumber FieldShape = 1
+refusalNumber FieldRange = 2
+refusalNumber NotFinite = 3
+refusalNumber BodyRange = 4
+refusalNumber NotUnit = 5
+refusalNumber StepOneRange = 6
+refusalNumber SheetLength = 7
+refusalNumber SheetValue = 8
+refusalNumber SheetDegree = 9
+refusalNumber NotDoodson = 10
+refusalNumber NoSuchLine = 11
+
+-- 0 where a call is accepted
+abbrev pub answerNumber : Answer → ℕ
+answerNumber Accepted = 0
+answerNumber (Refused r) = refusalNumber r
