@@ -1,7 +1,7 @@
 -- What each call answers to C, and every lent entry afterwards: the unit's own call, or 100 and nothing changed.
 use mathlib.Core.List.{List, [], _∷_}
 use mathlib.Core.Path.{_≡_}
-use Prim.Native.Nat.{ℕ}
+use Prim.Native.Nat.{ℕ, _+_, _*_}
 use lib.IntN.{ℤ, pos}
 use lib.ListN.{getD}
 use Rattle.arguments.specs.declared.Multipliers.{Multipliers}
@@ -17,6 +17,10 @@ use Rattle.step_one.specs.StepOne.{stepOne}
 use Rattle.step_two.specs.StepTwo.{stepTwo}
 use Rattle.crossing.specs.declared.GivenBody.{GivenBody}
 use Rattle.crossing.specs.Choices.{loveModel, frameOf, permanentSystem, bodyOf}
+
+-- a version's number, of its major, minor and patch number
+abbrev pub versionNumber : ℕ → ℕ → ℕ → ℕ
+versionNumber major minor patch = 1000000 * major + 1000 * minor + patch
 
 -- a call over a field, told where every choice names a case: its outcome, or the number and both lists as they were
 abbrev pub outcomeOf : List ℤ → List ℤ → Told Outcome → Outcome

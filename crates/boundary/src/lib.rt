@@ -1,9 +1,10 @@
 // The unit's calls for C: the functions of include/surfgimlet.h, each over the public call of its name.
 // Closed choices come as numbers; one that names no case is answered by 100, before anything else is looked at.
+ghost use mathlib.Core.Path.{_≡_};
 ghost use Rattle.doodson.specs.Doodson.{writeDoodson};
 ghost use Rattle.lines.specs.Lines.{findLine};
 ghost use Rattle.refusals.specs.Outcome.{Gives};
-ghost use Rattle.boundary.specs.Calls.{stepOneGiven, stepTwoGiven, oceanGiven, moveGiven, multipliersGiven, unlisted, found, Leaves};
+ghost use Rattle.boundary.specs.Calls.{versionNumber, stepOneGiven, stepTwoGiven, oceanGiven, moveGiven, multipliersGiven, unlisted, found, Leaves};
 use arguments::Multipliers;
 use arguments::Phases;
 use bodies::Body;
@@ -17,6 +18,20 @@ use lines::Sought;
 use permanent::Moved;
 
 const NO_SUCH_CHOICE: u32 = 100;
+
+const MAJOR: u32 = 1;
+
+const MINOR: u32 = 0;
+
+const PATCH: u32 = 0;
+
+// The version as one number, which SURFGIMLET_VERSION of the header equals.
+#[no_mangle]
+pub extern "C" fn surfgimlet_version() -> u32
+    ensures { λ r. ⌜ r ≡ versionNumber 1 0 0 ⌝ }
+{
+    1000000 * MAJOR + 1000 * MINOR + PATCH
+}
 
 // Solid tide, step one. Refused: 100, then as surfgimlet::step_one.
 #[no_mangle]

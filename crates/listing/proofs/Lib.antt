@@ -1,2 +1,3 @@
 pub mod Columns
 pub mod Lengths
+pub mod OneResult

@@ -23,7 +23,7 @@ returns : tie.Need-returns
 returns c =
     let i = c .before in
     let ok = rw (i .i .given .1) at (i .before .before .find-line .ok) in
-    rw (sym (i .before .before .find-line .ensures) ∙ ap tells (i .i .given .1), back w64 _ (ok .1 .1 .1 .1 .1 .0 .1), back w64 _ (ok .1 .1 .1 .1 .1 .1 .0 .1)) (record { answer = refl; result = refl })
+    rw (sym (i .before .before .find-line .ensures) ∙ ap tells (i .i .given .1), back w64 (i .i .given .0 .1 .0) (ok .1 .1 .1 .1 .1 .0 .1), back w64 (i .i .given .0 .1 .1 .0) (ok .1 .1 .1 .1 .1 .1 .0 .1)) (record { answer = refl; result = refl })
 
 returns-2 : tie.Need-returns-2
 returns-2 c =
