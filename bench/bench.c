@@ -1,24 +1,75 @@
-/* Times each call three ways in turn, and keeps the fastest of many rounds of each: what others do on the machine only adds. */
+/* Holds best.c to the unit on many inputs, then times each call of the unit, of best.c by each compiler, and of doubles.c, in turn, and keeps the
+ * fastest of many rounds of each: what others do on the machine only adds. */
 #define _POSIX_C_SOURCE 200809L
+#include <math.h>
 #include <stdio.h>
+#include <stdlib.h>
 #include <string.h>
 #include <time.h>
 #include "bench.h"
 
-#define DEGREE 12
-#define SIZE 91
-#define ROUNDS 100
+#define SIZE 1891
+#define ROUNDS 300
+#define CALLS 60000
 
-static int64_t c[SIZE], s[SIZE];
-static double cd[SIZE], sd[SIZE];
+enum { STEP_ONE, STEP_TWO, OCEAN };
+
+/* what a call is given */
+static uint32_t n, choice;
+static surfgimlet_phases phases = {123456789, 2345678901u, 3456789012u, 456789012, 1567890123, 2678901234u};
+static surfgimlet_body moon = {SURFGIMLET_DIRECTION, 0.0123, 0.6, 0.48, 0.64, 3.8e8};
+static surfgimlet_body sun = {SURFGIMLET_RECTANGULAR, 332946, 9e10, 7.2e10, -9.6e10, 1.5e11};
+static double radians[6];
 static uint8_t sheet[70000];
 static size_t length;
-static surfgimlet_phases b = {123456789, 2345678901u, 3456789012u, 456789012, 1567890123, 2678901234u};
-static double radians[6];
-static surfgimlet_body moon = {SURFGIMLET_DIRECTION, 0.0123, 0.6, 0.48, 0.64, 3.8e8}, sun = {SURFGIMLET_RECTANGULAR, 332946, 9e10, 7.2e10, -9.6e10, 1.5e11};
-static uint32_t wrong;
-static volatile int64_t sum;
-static volatile double sum_doubles;
+static int64_t c[SIZE], s[SIZE];
+static double cd[SIZE], sd[SIZE];
+static uint32_t answer;
+
+/* ---- the ways */
+
+typedef struct { const char *name; step_one_call *one; step_two_call *two; ocean_call *ocean; } way;
+
+static const way ways[] = {
+    {"unit", surfgimlet_step_one, surfgimlet_step_two, surfgimlet_ocean_tide},
+    {"gcc", gcc_step_one, gcc_step_two, gcc_ocean_tide},
+#ifdef WITH_CLANG
+    {"clang", clang_step_one, clang_step_two, clang_ocean_tide},
+#endif
+};
+#define WAYS ((int)(sizeof ways / sizeof *ways))
+#define DOUBLES WAYS
+
+static size_t size_of(uint32_t degree) { return (size_t)(degree + 1) * (degree + 2) / 2; }
+
+static void call(int what, int by)
+{
+    size_t size = size_of(n);
+    if (by == DOUBLES) {
+        if (what == STEP_ONE) doubles_step_one(cd, sd, moon, sun, choice);
+        else if (what == STEP_TWO) doubles_step_two(cd, sd, radians, choice);
+        else answer = doubles_ocean_tide(n, cd, sd, sheet, length, radians, choice);
+    } else if (what == STEP_ONE) {
+        answer = ways[by].one(n, c, size, s, size, moon, sun, choice);
+    } else if (what == STEP_TWO) {
+        answer = ways[by].two(n, c, size, s, size, phases, choice);
+    } else {
+        answer = ways[by].ocean(n, c, size, s, size, sheet, length, phases, choice);
+    }
+}
+
+/* ---- inputs */
+
+static uint64_t any(uint64_t below)
+{
+    static uint64_t state = 1;
+    uint64_t z = state += UINT64_C(0x9e3779b97f4a7c15);
+    z = (z ^ z >> 30) * UINT64_C(0xbf58476d1ce4e5b9);
+    z = (z ^ z >> 27) * UINT64_C(0x94d049bb133111eb);
+    return (z ^ z >> 31) % below;
+}
+
+static int64_t within(int64_t most) { return (int64_t)any(2 * (uint64_t)most + 1) - most; }
 
 static uint8_t *put(uint8_t *at, int64_t x, int bytes)
 {
@@ -26,45 +77,90 @@ static uint8_t *put(uint8_t *at, int64_t x, int bytes)
     return at + bytes;
 }
 
-static int64_t any(int64_t size)
-{
-    static uint64_t state = 1;
-    state = state * UINT64_C(6364136223846793005) + 1442695040888963407u;
-    return (int64_t)((state >> 33) % (2 * (uint64_t)size + 1)) - size;
-}
-
+/* places from (1,0) on, so that 90 reach degree 12, 30 degree 7 and 6 degree 3 */
 static void make_sheet(int lines, int tides, int places)
 {
     uint8_t *at = put(sheet, lines, 2);
-    for (int i = 0; i < 6 * lines; i++) at = put(at, any(4), 1);
+    for (int i = 0; i < 6 * lines; i++) at = put(at, within(13), 1);
     at = put(at, tides, 2);
-    for (int i = 0; i < lines * tides; i++) at = put(at, any(4000000 / lines), 4);
+    for (int i = 0; i < lines * tides; i++) at = put(at, within(4000000 / lines), 4);
     at = put(at, places, 2);
-    for (int n = 1, m = 0, j = 0; j < places; j++, m < n ? m++ : (n++, m = 0)) {
-        at = put(put(at, n, 1), m, 1);
-        for (int q = 0; q < 4 * tides; q++) at = put(at, (q & 1) && m == 0 ? 0 : any(1 << 24), 4);
+    for (int degree = 1, order = 0, j = 0; j < places; j++, order < degree ? order++ : (degree++, order = 0)) {
+        at = put(put(at, degree, 1), order, 1);
+        for (int q = 0; q < 4 * tides; q++) at = put(at, (q & 1) && order == 0 ? 0 : within(1 << 24), 4);
     }
     length = (size_t)(at - sheet);
 }
 
-static void unit_ocean(void) { wrong |= surfgimlet_ocean_tide(DEGREE, c, SIZE, s, SIZE, sheet, length, b, 0); }
-static void plain_ocean(void) { wrong |= plain_ocean_tide(DEGREE, c, SIZE, s, SIZE, sheet, length, b, 0); }
-static void doubles_ocean(void) { wrong |= (uint32_t)doubles_ocean_tide(cd, sd, sheet, length, radians); }
-/* degree 11, where the sheet reaches 12: refused with 9 once all of it is tested */
-static void unit_tests(void) { wrong |= surfgimlet_ocean_tide(11, c, 78, s, 78, sheet, length, b, 0) != 9; }
-static void plain_tests(void) { wrong |= plain_ocean_tide(11, c, 78, s, 78, sheet, length, b, 0) != 9; }
-static void doubles_tests(void) { wrong |= (uint32_t)doubles_sheet_test(sheet, length); }
-static void unit_two(void) { wrong |= surfgimlet_step_two(DEGREE, c, SIZE, s, SIZE, b, 1); }
-static void plain_two(void) { wrong |= plain_step_two(DEGREE, c, SIZE, s, SIZE, b, 1); }
-static void doubles_two(void) { doubles_step_two(cd, sd, radians, 1); }
-static void unit_one(void) { wrong |= surfgimlet_step_one(DEGREE, c, SIZE, s, SIZE, moon, sun, 1); }
-static void plain_one(void) { wrong |= plain_step_one(DEGREE, c, SIZE, s, SIZE, moon, sun, 1); }
-static void doubles_one(void) { doubles_step_one(cd, sd, moon, sun); }
+static void any_phases(void)
+{
+    uint32_t p[6];
+    for (int i = 0; i < 6; i++) p[i] = (uint32_t)any(UINT64_C(1) << 32);
+    phases = (surfgimlet_phases){p[0], p[1], p[2], p[3], p[4], p[5]};
+    for (int i = 0; i < 6; i++) radians[i] = p[i] * (6.283185307179586 / 4294967296.0);
+}
 
-/* a thousand sines, at phases spread over the turn */
-static void unit_sines(void) { int64_t t = 0; for (uint32_t i = 0; i < 1000; i++) t += surfgimlet_bench_sine(i * 2654435761u); sum = t; }
-static void plain_sines(void) { int64_t t = 0; for (uint32_t i = 0; i < 1000; i++) t += plain_sine(i * 2654435761u); sum = t; }
-static void doubles_sines(void) { double t = 0; for (uint32_t i = 0; i < 1000; i++) t += doubles_sine((i * 2654435761u) * (6.283185307179586 / 4294967296.0)); sum_doubles = t; }
+static surfgimlet_body any_body(double ratio, double least, double most)
+{
+    double r = least + (most - least) * (double)any(1 << 30) / (1 << 30), d[3], size = 0, by;
+    for (int i = 0; i < 3; i++) { d[i] = (double)within(1 << 30); size += d[i] * d[i]; }
+    by = any(2) ? 1 / sqrt(size) : r / sqrt(size);
+    return (surfgimlet_body){by * sqrt(size) > 2 ? SURFGIMLET_RECTANGULAR : SURFGIMLET_DIRECTION, ratio, d[0] * by, d[1] * by, d[2] * by, r};
+}
+
+/* ---- best.c held to the unit */
+
+static void hold(int what)
+{
+    static int64_t c_before[SIZE], s_before[SIZE], c_unit[SIZE], s_unit[SIZE];
+    uint32_t unit;
+    memcpy(c_before, c, sizeof c);
+    memcpy(s_before, s, sizeof s);
+    call(what, 0);
+    unit = answer;
+    memcpy(c_unit, c, sizeof c);
+    memcpy(s_unit, s, sizeof s);
+    for (int by = 1; by < WAYS; by++) {
+        memcpy(c, c_before, sizeof c);
+        memcpy(s, s_before, sizeof s);
+        call(what, by);
+        if (answer != unit || memcmp(c, c_unit, sizeof c) || memcmp(s, s_unit, sizeof s)) {
+            printf("best.c by %s differs from the unit: call %d, N = %u, choice %u, answers %u and %u\n", ways[by].name, what, n, choice, answer, unit);
+            exit(1);
+        }
+    }
+}
+
+/* accepted calls, and calls with one thing at fault: an entry, a float, the Moon's mass, a byte of the sheet, its length, N */
+static void hold_all(void)
+{
+    static const uint32_t degrees[6] = {4, 12, 60, 7, 3, 61};
+    static const double floats[8] = {0, -1, 1e8, 1e12, 1e160, -0.0, 1e6, 2.5e11};
+    long refused[101] = {0};
+    for (long i = 0; i < CALLS; i++) {
+        int what = (int)(i % 3), fault = (int)any(12);
+        int64_t edge = (int64_t)1 << 60;
+        n = degrees[any(100) ? any(4) : any(6)];
+        choice = (uint32_t)any(40) ? (uint32_t)any(2) : 2;
+        for (size_t k = 0; k < SIZE; k++) { c[k] = within(edge); s[k] = within(edge); }
+        any_phases();
+        moon = any_body(0.0123, 3e8, 4e8);
+        sun = any_body(any(20) ? 332946 : 1e5, any(20) ? 1.4e11 : 1e8, 1.5e11);
+        if (what == OCEAN) make_sheet(1 + (int)any(8), 1 + (int)any(4), (int)any(16));
+        if (fault == 0) (any(2) ? c : s)[any(size_of(4))] = (any(2) ? edge : -edge) + within(1);
+        if (fault == 1) *(&(any(2) ? &moon : &sun)->ratio + any(5)) = any(4) ? floats[any(8)] : any(2) ? NAN : INFINITY;
+        if (fault == 2) sheet[any(length + 1)] = (uint8_t)any(256);
+        if (fault == 3) length += (size_t)within(1);
+        if (fault == 4) moon = any_body((double)(100000 + any(900001)), 1e8, 1.5e8);
+        hold(what);
+        refused[answer]++;
+    }
+    printf("best.c: the unit's answers and counts on %d calls; answered", CALLS);
+    for (int i = 0; i <= 100; i++) if (refused[i]) printf(" %d: %ld", i, refused[i]);
+    puts("\n");
+}
+
+/* ---- times */
 
 static double now(void)
 {
@@ -73,64 +169,127 @@ static double now(void)
     return t.tv_sec * 1e9 + t.tv_nsec;
 }
 
-static double round_of(void (*call)(void), long times)
+/* a round of a call: entries start at 0, so that none leaves its range */
+static void time_once(int what, int by, double *best)
 {
-    double from = now();
-    for (long i = 0; i < times; i++) call();
-    return (now() - from) / times;
-}
-
-/* the fastest round of each way so far; entries start afresh, so that none leaves its range */
-static void time_once(void (*call)(void), double *best)
-{
-    double each;
-    memset(c, 0, sizeof c); memset(s, 0, sizeof s);
-    each = round_of(call, 1 + (long)(3e5 / (round_of(call, 1) + 1)));
+    double from, each;
+    long times;
+    memset(c, 0, sizeof c);
+    memset(s, 0, sizeof s);
+    from = now();
+    call(what, by);
+    times = 1 + (long)(1e5 / (now() - from + 1));
+    from = now();
+    for (long i = 0; i < times; i++) call(what, by);
+    each = (now() - from) / (double)times;
     if (each < *best) *best = each;
 }
 
-static void compare(const char *what, void (*unit)(void), void (*plain)(void), void (*doubles)(void), double per)
+static double best_c(const double *best, const char **by)
 {
-    double u = 1e18, p = 1e18, d = 1e18;
-    for (int r = 0; r < ROUNDS; r++) { time_once(unit, &u); time_once(plain, &p); time_once(doubles, &d); }
-    printf("%-38s %10.1f %10.1f %10.1f %8.2f %8.2f\n", what, u / per, p / per, d / per, u / p, u / d);
+    int least = 1;
+    for (int i = 2; i < WAYS; i++) if (best[i] < best[least]) least = i;
+    *by = ways[least].name;
+    return best[least];
 }
 
-/* the unit's ocean call at sheets that differ in one number, each round taking all of them in turn */
-static void grow(void)
+typedef struct { const char *name; int what; int lines, tides, places; uint32_t n, choice; double of_c, of_doubles; } row;
+
+/* the last two are the ratios to reach, 0 where none is set */
+static const row rows[] = {
+    {"ocean 128/32/90", OCEAN, 128, 32, 90, 12, 0, 1.10, 0.90},
+    {"ocean 128/32/90", OCEAN, 128, 32, 90, 60, 0, 1.10, 0},
+    {"ocean 128/32/90, refused with 9", OCEAN, 128, 32, 90, 11, 0, 0, 0},
+    {"ocean 64/8/30", OCEAN, 64, 8, 30, 12, 0, 0, 0},
+    {"ocean 64/8/30", OCEAN, 64, 8, 30, 60, 0, 1.20, 0},
+    {"ocean 8/2/6", OCEAN, 8, 2, 6, 4, 0, 0, 0},
+    {"ocean 8/2/6", OCEAN, 8, 2, 6, 12, 0, 1.25, 0},
+    {"ocean 8/2/6", OCEAN, 8, 2, 6, 60, 0, 0, 0},
+    {"step two, anelastic", STEP_TWO, 0, 0, 0, 4, 1, 1.45, 0},
+    {"step two, anelastic", STEP_TWO, 0, 0, 0, 12, 1, 1.45, 1.05},
+    {"step two, anelastic", STEP_TWO, 0, 0, 0, 60, 1, 1.20, 0},
+    {"step two, elastic", STEP_TWO, 0, 0, 0, 4, 0, 1.45, 0},
+    {"step two, elastic", STEP_TWO, 0, 0, 0, 12, 0, 1.45, 0},
+    {"step two, elastic", STEP_TWO, 0, 0, 0, 60, 0, 0, 0},
+    {"step one, anelastic", STEP_ONE, 0, 0, 0, 4, 1, 1.10, 0},
+    {"step one, anelastic", STEP_ONE, 0, 0, 0, 12, 1, 1.10, 0},
+    {"step one, anelastic", STEP_ONE, 0, 0, 0, 60, 1, 1.10, 0},
+    {"step one, elastic", STEP_ONE, 0, 0, 0, 4, 0, 0, 0},
+    {"step one, elastic", STEP_ONE, 0, 0, 0, 12, 0, 0, 0},
+    {"step one, elastic", STEP_ONE, 0, 0, 0, 60, 0, 0, 0},
+};
+
+/* a ratio beside the one to reach */
+static void put_ratio(double ratio, double most)
 {
-    static const int sizes[12][3] = {{16, 8, 30}, {32, 8, 30}, {64, 8, 30}, {128, 8, 30}, {64, 4, 30}, {64, 8, 30}, {64, 16, 30}, {64, 32, 30},
-        {64, 8, 0}, {64, 8, 30}, {64, 8, 60}, {64, 8, 90}};
-    double best[12];
-    for (int i = 0; i < 12; i++) best[i] = 1e18;
-    for (int r = 0; r < ROUNDS; r++)
-        for (int i = 0; i < 12; i++) {
-            make_sheet(sizes[i][0], sizes[i][1], sizes[i][2]);
-            time_once(unit_ocean, &best[i]);
+    if (most > 0) printf(" %.2f | %.2f%s |", ratio, most, ratio > most ? " above" : "");
+    else printf(" %.2f | |", ratio);
+}
+
+static void compare(const row *r)
+{
+    double best[WAYS + 1], c_time;
+    const char *by;
+    for (int i = 0; i <= WAYS; i++) best[i] = 1e18;
+    n = r->n;
+    choice = r->choice;
+    if (r->what == OCEAN) make_sheet(r->lines, r->tides, r->places);
+    memset(c, 0, sizeof c);
+    memset(s, 0, sizeof s);
+    hold(r->what);
+    for (int k = 0; k < ROUNDS; k++)
+        for (int i = 0; i <= WAYS; i++) time_once(r->what, i, &best[i]);
+    c_time = best_c(best, &by);
+    printf("| %s | %u | %.0f | %.0f %s | %.0f |", r->name, n, best[0], c_time, by, best[DOUBLES]);
+    put_ratio(best[0] / c_time, r->of_c);
+    put_ratio(best[0] / best[DOUBLES], r->of_doubles);
+    puts("");
+}
+
+/* what one more of something costs: the same call at four sizes, each round taking all of them in turn */
+static void grow(const char *what, int kind, const int sizes[4][4], int part)
+{
+    double best[4][WAYS + 1], more;
+    for (int i = 0; i < 4; i++)
+        for (int by = 0; by <= WAYS; by++) best[i][by] = 1e18;
+    choice = kind == STEP_TWO;
+    for (int k = 0; k < ROUNDS; k++)
+        for (int i = 0; i < 4; i++) {
+            n = (uint32_t)sizes[i][3];
+            if (kind == OCEAN) make_sheet(sizes[i][0], sizes[i][1], sizes[i][2]);
+            for (int by = 0; by < WAYS; by++) time_once(kind, by, &best[i][by]);
         }
-    for (int i = 0; i < 12; i++)
-        printf("%4d lines, %2d tides, %2d places %8.2f\n", sizes[i][0], sizes[i][1], sizes[i][2], best[i] / 1000);
+    more = part < 3 ? sizes[3][part] - sizes[0][part] : 2.0 * (double)(size_of((uint32_t)sizes[3][3]) - size_of((uint32_t)sizes[0][3]));
+    printf("| %s |", what);
+    for (int i = 0; i < 4; i++) printf(" %.0f%s", best[i][0], i < 3 ? "," : " |");
+    for (int by = 0; by < WAYS; by++) printf(" %.2f |", (best[3][by] - best[0][by]) / more);
+    puts("");
 }
 
 int main(void)
 {
-    const uint32_t turns[6] = {b.tau, b.s, b.h, b.p, b.np, b.ps};
-    for (int i = 0; i < 6; i++) radians[i] = turns[i] * (6.283185307179586 / 4294967296.0);
-    plain_prepare();
+    static const int by_line[4][4] = {{16, 8, 30, 12}, {32, 8, 30, 12}, {64, 8, 30, 12}, {128, 8, 30, 12}};
+    static const int by_tide[4][4] = {{64, 4, 30, 12}, {64, 8, 30, 12}, {64, 16, 30, 12}, {64, 32, 30, 12}};
+    static const int by_place[4][4] = {{64, 8, 0, 12}, {64, 8, 30, 12}, {64, 8, 60, 12}, {64, 8, 90, 12}};
+    static const int by_entry[4][4] = {{0, 0, 0, 4}, {0, 0, 0, 12}, {0, 0, 0, 30}, {0, 0, 0, 60}};
     doubles_prepare();
+    hold_all();
+    any_phases();
+    moon = (surfgimlet_body){SURFGIMLET_DIRECTION, 0.0123, 0.6, 0.48, 0.64, 3.8e8};
+    sun = (surfgimlet_body){SURFGIMLET_RECTANGULAR, 332946, 9e10, 7.2e10, -9.6e10, 1.5e11};
 
-    puts("nanoseconds a call                            unit     C, -O3    doubles   unit/C   unit/doubles");
-    make_sheet(128, 32, 90);
-    compare("ocean, 128 lines, 32 tides, 90 places", unit_ocean, plain_ocean, doubles_ocean, 1);
-    compare("  of which its tests", unit_tests, plain_tests, doubles_tests, 1);
-    make_sheet(8, 2, 6);
-    compare("ocean, 8 lines, 2 tides, 6 places", unit_ocean, plain_ocean, doubles_ocean, 1);
-    compare("step two, anelastic", unit_two, plain_two, doubles_two, 1);
-    compare("step one, anelastic", unit_one, plain_one, doubles_one, 1);
-    compare("a sine", unit_sines, plain_sines, doubles_sines, 1000);
+    puts("Nanoseconds a call, the least of many rounds. A sheet is lines/tides/places.\n");
+    puts("| call | N | unit | best C | doubles | unit/C | at most | unit/doubles | at most |\n|---|---|---|---|---|---|---|---|---|");
+    for (size_t i = 0; i < sizeof rows / sizeof *rows; i++) compare(&rows[i]);
 
-    puts("\nhow the unit's ocean call grows, in microseconds");
-    grow();
-    if (wrong) printf("a call was refused\n");
-    return wrong != 0;
+    printf("\n| one more | the unit at four sizes |");
+    for (int by = 0; by < WAYS; by++) printf(" %s |", ways[by].name);
+    printf("\n|---|---|");
+    for (int by = 0; by < WAYS; by++) printf("---|");
+    puts("");
+    grow("line: 16, 32, 64, 128 of them", OCEAN, by_line, 0);
+    grow("tide: 4, 8, 16, 32", OCEAN, by_tide, 1);
+    grow("place: 0, 30, 60, 90", OCEAN, by_place, 2);
+    grow("entry: step two at N = 4, 12, 30, 60", STEP_TWO, by_entry, 3);
+    return 0;
 }

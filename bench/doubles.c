@@ -1,84 +1,152 @@
-/* What a user would write: a field of doubles, phases in radians, sin and cos of the library, nothing rounded to counts.
- * The sheet is read and tested as the unit does; the field and the bodies are taken on trust. */
-#include "../tests/boundary/model.h"
+/* What a user would write: a field of doubles, phases in radians, sine and cosine of the C library, nothing rounded to counts.
+ * The sheet is read and tested; the field and the bodies are taken on trust. */
+#include <math.h>
+#include <string.h>
 #include "bench.h"
+#include "lines.h"
 
-static double multipliers[49][6];
+static double multipliers[LINES][6];
 
 void doubles_prepare(void)
 {
-    for (int i = 0; i < 49; i++) {
-        int32_t m[6] = {0};
-        model_multipliers_of(model_lines[i].number, m);
-        for (int j = 0; j < 6; j++) multipliers[i][j] = m[j];
-    }
+    for (int i = 0; i < LINES; i++)
+        for (int j = 0; j < 6; j++) multipliers[i][j] = (double)(printed[i].digits >> (20 - 4 * j) & 15) - (j > 0 ? 5 : 0);
 }
 
-double doubles_sine(double x) { return sin(x); }
-
-static double angle(const double m[6], const double b[6])
+static double angle(const double m[6], const double phases[6])
 {
-    return m[0] * b[0] + m[1] * b[1] + m[2] * b[2] + m[3] * b[3] + m[4] * b[4] + m[5] * b[5];
+    return m[0] * phases[0] + m[1] * phases[1] + m[2] * phases[2] + m[3] * phases[3] + m[4] * phases[4] + m[5] * phases[5];
 }
 
-void doubles_step_two(double *c, double *s, const double b[6], int love)
+void doubles_step_two(double *c, double *s, const double phases[6], uint32_t love)
 {
     double c20 = 0, c21 = 0, s21 = 0, c22 = 0, s22 = 0;
-    for (int i = 0; i < 49; i++) {
-        double x, sine, cosine, one = model_lines[i].one * 1e-13, two = model_lines[i].two * 1e-13;
-        if (i >= 26 && i < 47 && !love) continue;
-        x = angle(multipliers[i], b);
+    for (int i = 0; i < LINES; i++) {
+        double x, sine, cosine, first = printed[i].first * 1e-13, second = printed[i].second * 1e-13;
+        if (i >= DIURNAL && i < SEMIDIURNAL && !love) continue;
+        x = angle(multipliers[i], phases);
         sine = sin(x);
         cosine = cos(x);
-        if (i < 26) { c21 += (love ? two : one) * sine; s21 += (love ? two : one) * cosine; }
-        else if (i < 47) c20 += one * cosine + two * sine;
-        else { c22 += one * cosine; s22 -= one * sine; }
+        if (i < DIURNAL) {
+            c21 += (love ? second : first) * sine;
+            s21 += (love ? second : first) * cosine;
+        } else if (i < SEMIDIURNAL) {
+            c20 += first * cosine + second * sine;
+        } else {
+            c22 += first * cosine;
+            s22 -= first * sine;
+        }
     }
-    c[3] += c20; c[4] += c21; c[5] += c22; s[4] += s21; s[5] += s22;
+    c[3] += c20; c[4] += c21; c[5] += c22;
+    s[4] += s21; s[5] += s22;
 }
 
-void doubles_step_one(double *c, double *s, surfgimlet_body moon, surfgimlet_body sun)
+/* P and Q of one body, added to what is there */
+static void raise(surfgimlet_body body, double p[7], double q[7])
 {
-    static const double k[7] = {0.30190, 0.29830, 0.30102, 0.093, 0.093, 0.093, 0.094}, l[7] = {0, -0.00144, -0.00130};
-    static const double plus[3] = {-0.00089, -0.00080, -0.00057};
-    double mp[7], mq[7], sp[7], sq[7];
-    model_direction m, b;
-    if (model_see(moon, &m) || model_see(sun, &b)) return;
-    model_body(moon, m, mp, mq);
-    model_body(sun, b, sp, sq);
+    double over = body.kind == SURFGIMLET_RECTANGULAR ? body.r : 1, u = body.x / over, v = body.y / over, w = body.z / over;
+    double t = 6378136.3 / body.r, two = body.ratio * t * t * t, three = two * t;
+    double e2 = u * u - v * v, f2 = 2 * u * v, e3 = u * e2 - v * f2, f3 = u * f2 + v * e2;
+    double n[7] = {
+        sqrt(5.0) * (3 * w * w - 1) / 2 * two, sqrt(5 / 3.0) * 3 * w * two, sqrt(5 / 12.0) * 3 * two, sqrt(7.0) * (5 * w * w - 3) * w / 2 * three,
+        sqrt(7 / 6.0) * (15 * w * w - 3) / 2 * three, sqrt(7 / 60.0) * 15 * w * three, sqrt(7 / 360.0) * 15 * three};
+    p[0] += n[0]; p[3] += n[3];
+    p[1] += n[1] * u; q[1] += n[1] * v;
+    p[2] += n[2] * e2; q[2] += n[2] * f2;
+    p[4] += n[4] * u; q[4] += n[4] * v;
+    p[5] += n[5] * e2; q[5] += n[5] * f2;
+    p[6] += n[6] * e3; q[6] += n[6] * f3;
+}
+
+void doubles_step_one(double *c, double *s, surfgimlet_body moon, surfgimlet_body sun, uint32_t love)
+{
+    static const double real[2][7] = {{0.29525, 0.29470, 0.29801, 0.093, 0.093, 0.093, 0.094}, {0.30190, 0.29830, 0.30102, 0.093, 0.093, 0.093, 0.094}};
+    static const double imaginary[2][7] = {{0}, {0, -0.00144, -0.00130}};
+    static const double plus[2][3] = {{-0.00087, -0.00079, -0.00057}, {-0.00089, -0.00080, -0.00057}};
+    double p[7] = {0}, q[7] = {0};
+    raise(moon, p, q);
+    raise(sun, p, q);
     for (int i = 0; i < 7; i++) {
-        double p = (mp[i] + sp[i]) / (i < 3 ? 5 : 7), q = (mq[i] + sq[i]) / (i < 3 ? 5 : 7);
-        c[3 + i] += k[i] * p + l[i] * q;
-        s[3 + i] += k[i] * q - l[i] * p;
-        if (i < 3) { c[10 + i] += plus[i] * p; s[10 + i] += plus[i] * q; }
+        double over = i < 3 ? 5 : 7, x = p[i] / over, y = q[i] / over;
+        c[3 + i] += real[love][i] * x + imaginary[love][i] * y;
+        s[3 + i] += real[love][i] * y - imaginary[love][i] * x;
+        if (i < 3) {
+            c[10 + i] += plus[love][i] * x;
+            s[10 + i] += plus[love][i] * y;
+        }
     }
-    c[3] -= 4.4228e-8 * -0.31460 * 0.30190;
+    c[3] -= 4.4228e-8 * -0.31460 * real[love][0];
 }
 
-int doubles_sheet_test(const uint8_t *sheet, size_t length)
+typedef struct { size_t lines, tides, places; const uint8_t *line, *row, *place; } layout;
+
+static size_t half(const uint8_t *at) { return at[0] + 256u * at[1]; }
+static int32_t word(const uint8_t *at) { int32_t w; memcpy(&w, at, 4); return w; }
+
+static int shaped(const uint8_t *sheet, size_t length, layout *t)
 {
-    model_sheet t;
-    if (model_layout(sheet, length, &t)) return 7;
-    return model_values(&t) ? 0 : 8;
+    const uint8_t *end = sheet + length;
+    if (length < 2) return 0;
+    t->lines = half(sheet);
+    t->line = sheet + 2;
+    if (t->lines < 1 || t->lines > 128 || (size_t)(end - t->line) < 6 * t->lines + 2) return 0;
+    t->row = t->line + 6 * t->lines + 2;
+    t->tides = half(t->row - 2);
+    if (t->tides < 1 || t->tides > 32 || (size_t)(end - t->row) < 4 * t->lines * t->tides + 2) return 0;
+    t->place = t->row + 4 * t->lines * t->tides + 2;
+    t->places = half(t->place - 2);
+    return t->places <= 90 && (size_t)(end - t->place) == t->places * (2 + 16 * t->tides);
 }
 
-int doubles_ocean_tide(double *c, double *s, const uint8_t *sheet, size_t length, const double b[6])
+/* every test is made, without a branch for each */
+static int valid(const layout *t)
 {
-    model_sheet t;
+    int good = 1, before = -1;
+    for (size_t i = 0; i < 6 * t->lines; i++) good &= ((int8_t)t->line[i] >= -13) & ((int8_t)t->line[i] <= 13);
+    for (size_t k = 0; k < t->tides; k++) {
+        int64_t total = 0;
+        for (size_t f = 0; f < t->lines; f++) {
+            int64_t a = word(t->row + 4 * (k * t->lines + f));
+            total += a < 0 ? -a : a;
+        }
+        good &= total <= 4000000;
+    }
+    for (size_t j = 0; j < t->places; j++) {
+        const uint8_t *place = t->place + j * (2 + 16 * t->tides);
+        int here = place[0] * 256 + place[1];
+        int32_t in_s = 0;
+        good &= (place[0] >= 1) & (place[0] <= 12) & (place[1] <= place[0]) & (here > before);
+        before = here;
+        for (size_t k = 0; k < t->tides; k++) {
+            for (int q = 0; q < 4; q++) {
+                int32_t x = word(place + 2 + 16 * k + 4 * q);
+                good &= (x >= -(1 << 24)) & (x <= 1 << 24);
+            }
+            in_s |= word(place + 6 + 16 * k) | word(place + 14 + 16 * k);
+        }
+        good &= (place[1] > 0) | (in_s == 0);
+    }
+    return good;
+}
+
+uint32_t doubles_ocean_tide(uint32_t n, double *c, double *s, const uint8_t *sheet, size_t length, const double phases[6], uint32_t frame)
+{
+    layout t;
     double sine[128], cosine[128], fcos[32], fsin[32];
-    if (model_layout(sheet, length, &t)) return 7;
-    if (!model_values(&t)) return 8;
+    if (!shaped(sheet, length, &t)) return 7;
+    if (!valid(&t)) return 8;
+    if (t.places && t.place[(t.places - 1) * (2 + 16 * t.tides)] > n) return 9;
     for (size_t f = 0; f < t.lines; f++) {
         double m[6], x;
         for (int i = 0; i < 6; i++) m[i] = (int8_t)t.line[6 * f + i];
-        x = angle(m, b);
+        x = angle(m, phases);
         sine[f] = sin(x);
         cosine[f] = cos(x);
     }
     for (size_t k = 0; k < t.tides; k++) {
         double x = 0, y = 0;
         for (size_t f = 0; f < t.lines; f++) {
-            double a = model_word(t.row + 4 * (k * t.lines + f)) * 1e-6;
+            double a = word(t.row + 4 * (k * t.lines + f)) * 1e-6;
             x += a * cosine[f];
             y += a * sine[f];
         }
@@ -87,12 +155,13 @@ int doubles_ocean_tide(double *c, double *s, const uint8_t *sheet, size_t length
     }
     for (size_t j = 0; j < t.places; j++) {
         const uint8_t *p = t.place + j * (2 + 16 * t.tides);
-        size_t at = model_place(p[0], p[1]);
+        size_t at = (size_t)p[0] * (p[0] + 1u) / 2 + p[1];
         double x = 0, y = 0;
+        if (frame == SURFGIMLET_CENTRE_OF_MASS && p[0] == 1) continue;
         for (size_t k = 0; k < t.tides; k++) {
             const uint8_t *q = p + 2 + 16 * k;
-            x += fcos[k] * model_word(q) + fsin[k] * model_word(q + 8);
-            y += fcos[k] * model_word(q + 4) + fsin[k] * model_word(q + 12);
+            x += fcos[k] * word(q) + fsin[k] * word(q + 8);
+            y += fcos[k] * word(q + 4) + fsin[k] * word(q + 12);
         }
         c[at] += x * 1e-15;
         s[at] += y * 1e-15;

@@ -18,7 +18,7 @@ use Rattle.permanent.specs.Systems.{movedC20}
 use Rattle.refusals.specs.Outcome.{Outcome}
 use Rattle.refusals.specs.Told.Told.{accepted, refused}
 use Rattle.step_one.specs.StepOne.{stepOne}
-use Rattle.step_two.specs.StepTwo.{stepTwo}
+use Rattle.surfgimlet.specs.Calls.{stepTwo}
 use Rattle.boundary.specs.Calls.{outcomeOf, stepOneGiven, stepTwoGiven, oceanGiven, moveGiven}
 
 module _ (n : ℕ) (c s : List ℤ) where

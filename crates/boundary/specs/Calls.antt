@@ -14,7 +14,7 @@ use Rattle.lines.specs.Lines.{Found}
 use Rattle.ocean.specs.Ocean.{oceanTide}
 use Rattle.permanent.specs.Systems.{movedC20}
 use Rattle.step_one.specs.StepOne.{stepOne}
-use Rattle.step_two.specs.StepTwo.{stepTwo}
+use Rattle.surfgimlet.specs.Calls.{stepTwo}
 use Rattle.crossing.specs.declared.GivenBody.{GivenBody}
 use Rattle.crossing.specs.Choices.{loveModel, frameOf, permanentSystem, bodyOf}
 

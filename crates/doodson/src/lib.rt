@@ -1,7 +1,7 @@
 // Doodson numbers (001, note to Table 6.2; document 01, "Doodson numbers"): six multipliers in six decimal digits.
 ghost use mathlib.Core.Path.{_≡_};
 ghost use mathlib.Core.Bool.{true};
-ghost use Prim.Native.Nat.{_/_, _%_, _+_, _*_, _≤_};
+ghost use Prim.Native.Nat.{_+_, _*_, _≤_};
 ghost use lib.IntN.{pos, natAbs, _+ℤ_, _-ℤ_};
 ghost use Rattle.doodson.specs.Doodson.{isDoodson, multipliersIn, writable, other, readDoodson, writeDoodson, tellsRead, tellsWritten};
 use arguments::Multipliers;
@@ -24,12 +24,12 @@ pub fn is_doodson(number: u32) -> bool
     number <= 999999
 }
 
-// The digit of a unit as a multiplier, 5 taken off.
-fn multiplier(number: u32, unit: u32) -> i32
-    requires { ⌜ 1 ≤ unit ⌝ }
-    ensures { λ r. ⌜ r ≡ pos (number / unit % 10) -ℤ pos 5 ⌝ }
+// The multiplier that a digit other than the first writes.
+pub fn multiplier_of(digit: u32) -> i32
+    requires { ⌜ digit ≤ 15 ⌝ }
+    ensures { λ r. ⌜ r ≡ pos digit -ℤ pos 5 ⌝ }
 {
-    (number / unit % 10) as i32 - 5
+    digit as i32 - 5
 }
 
 // The multipliers in a number's last six digits.
@@ -38,11 +38,11 @@ pub fn multipliers_in(number: u32) -> Multipliers
 {
     Multipliers {
         tau: (number / 100000 % 10) as i32,
-        s: multiplier(number, 10000),
-        h: multiplier(number, 1000),
-        p: multiplier(number, 100),
-        np: multiplier(number, 10),
-        ps: multiplier(number, 1),
+        s: multiplier_of(number / 10000 % 10),
+        h: multiplier_of(number / 1000 % 10),
+        p: multiplier_of(number / 100 % 10),
+        np: multiplier_of(number / 10 % 10),
+        ps: multiplier_of(number / 1 % 10),
     }
 }
 

@@ -8,7 +8,8 @@ use native.Mathlib.Omega.{arith}
 use lib.IntN.{ℤ}
 use lib.ListN.{length}
 use Rattle.field.specs.Field.{size, place, everyInRange, fieldRefusal}
-use Rattle.field.proofs.Table.{field-table, all-in}
+use Rattle.field.proofs.Entries.{every-small}
+use Rattle.field.proofs.Table.{field-table}
 
 -- a field that is not refused
 pub record Accepted (n : ℕ) (c s : List ℤ) : Type 0 where
@@ -27,8 +28,8 @@ accepted-field n c s e =
       largest = t .0 .largest;
       c-size = t .0 .c-size;
       s-size = t .0 .s-size;
-      c-range = all-in c (t .1 .0 .entry);
-      s-range = all-in s (t .1 .1 .entry);
+      c-range = every-small c (λ k b. t .1 .0 .entry k);
+      s-range = every-small s (λ k b. t .1 .1 .entry k);
     }
 
 -- a place of a degree up to N stands in the list

@@ -9,8 +9,9 @@ use native.Mathlib.Numerals.{add-one}
 use native.Mathlib.Omega.{arith}
 use lib.IntN.{ℤ, pos, natAbs, _+ℤ_}
 use lib.ListN.{length, getD}
-use Rattle.field.specs.Added.{corrected, added}
+use Rattle.field.specs.Added.{corrected, added, addedAt}
 use Rattle.field.specs.Field.{everyInRange}
+use Rattle.field.specs.Inner.{addedFrom}
 use Rattle.field.proofs.Entries.{corrected-length, corrected-here, corrected-elsewhere, entry-in-range}
 
 -- the first n places rise
@@ -88,3 +89,32 @@ added-same at at′ d d′ l (suc n) p q =
 -- places one after the other rise
 pub run-rises : (from n : ℕ) → Rising (λ k. from + k) n
 run-rises from n = record { rise = λ i j h b. omega arith }
+
+-- ---- at the places of a list
+abbrev pub the-places : List ℕ → ℕ → ℕ
+the-places places k = getD places k 0
+
+module _ (places : List ℕ) (by l : List ℤ) where
+  pub at-length : length (addedAt places by l) ≡ length l
+  unfolding addedAt
+  at-length = added-length (the-places places) _ l (length places)
+
+  pub at-here : Rising (the-places places) (length places) → (j : ℕ) → j < length places → the-places places j < length l
+      → getD (addedAt places by l) (the-places places j) (pos 0) ≡ getD l (the-places places j) (pos 0) +ℤ getD by j (pos 0)
+  unfolding addedAt
+  at-here r j b h = added-here (the-places places) _ l (length places) r j b h
+
+  pub at-elsewhere : (k : ℕ) → ((j : ℕ) → j < length places → k ≡ the-places places j → ⊥) → getD (addedAt places by l) k (pos 0) ≡ getD l k (pos 0)
+  unfolding addedAt
+  at-elsewhere k h = added-elsewhere (the-places places) _ l (length places) k h
+
+  -- where they stand one after the other
+  module _ (from : ℕ) (one-run : (k : ℕ) → k < length places → the-places places k ≡ from + k) where
+    pub at-run : length by ≡ length places → addedFrom from by l ≡ addedAt places by l
+    unfolding addedAt
+    at-run e =
+        ap (λ (n : ℕ). added (λ k. from + k) (λ k. getD by k (pos 0)) n l) e
+        ∙ added-same (λ k. from + k) (the-places places) _ _ l (length places) (λ k h. sym (one-run k h)) (λ k h. refl)
+
+    pub at-rises : Rising (the-places places) (length places)
+    at-rises = record { rise = λ i j h b. omega (arith, one-run i (omega arith), one-run j b) }

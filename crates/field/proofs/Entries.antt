@@ -1,11 +1,11 @@
 -- The entries of a list: their range, and a corrected list at each place.
-use mathlib.Core.Path.{_≡_, sym, ap, _∙_}
+use mathlib.Core.Path.{_≡_, refl, sym, ap, _∙_}
 use mathlib.Core.Bool.{Bool, true, false, _&&_}
 use mathlib.Core.List.{List, [], _∷_}
 use Prim.Native.Nat.{ℕ, zero, suc, _+_, _^_, _≤_, _<_}
 use native.Mathlib.Numerals.{add-one}
 use native.Mathlib.Omega.{arith}
-use borrow.Author.Tests.{leb-true}
+use borrow.Author.Tests.{leb-true, le-leb}
 use lib.IntN.{ℤ, pos, natAbs, _+ℤ_}
 use lib.ListN.{length, getD, drop, length-set}
 use lib.Seq.{drop-cons, drop-length, getD-set-same, getD-set-other}
@@ -43,6 +43,12 @@ unfolding everyInRange
 entry-in-range [] e k = omega arith
 entry-in-range (z ∷ zs) e zero = leb-true _ _ (and-left (isEntry z) (everyInRange zs) e)
 entry-in-range (z ∷ zs) e (suc k) = entry-in-range zs (and-right (isEntry z) (everyInRange zs) e) k
+
+-- a list whose entries are each of that size
+pub every-small : (l : List ℤ) → ((k : ℕ) → k < length l → natAbs (getD l k (pos 0)) ≤ 2 ^ 60) → everyInRange l ≡ true
+unfolding everyInRange
+every-small [] h = refl
+every-small (z ∷ zs) h = rw (le-leb (natAbs z) (2 ^ 60) (h 0 (omega arith))) (every-small zs (λ k b. h (suc k) (omega arith)))
 
 -- a corrected list: as long as before, the entry corrected, every other as before
 module _ (l : List ℤ) (at : ℕ) (d : ℤ) where

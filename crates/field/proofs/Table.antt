@@ -11,7 +11,7 @@ use lib.IntN.{ℤ, pos, natAbs}
 use lib.ListN.{length, getD}
 use Rattle.whole.proofs.Tests.{and-left, and-right}
 use Rattle.field.specs.Field.{size, shaped, shapedBy, everyInRange, fieldRefusal}
-use Rattle.field.proofs.Entries.{entry-in-range}
+use Rattle.field.proofs.Entries.{entry-in-range, every-small}
 
 -- N is 4 to 60, and both lists have (N+1)(N+2)/2 entries
 pub record Shaped (n : ℕ) (c s : List ℤ) : Type 0 where
@@ -39,15 +39,10 @@ is-shaped n c s = (
   λ h. rw (le-leb 4 n (h .least), le-leb n 60 (h .largest), eq-eqb (length c) (size n) (h .c-size), eq-eqb (length s) (size n) (h .s-size)),
 )
 
-pub all-in : (l : List ℤ) → ((k : ℕ) → natAbs (getD l k (pos 0)) ≤ 2 ^ 60) → everyInRange l ≡ true
-unfolding everyInRange
-all-in [] h = refl
-all-in (z ∷ zs) h = rw (le-leb (natAbs z) (2 ^ 60) (h 0)) (all-in zs (λ k. h (suc k)))
-
 is-in-range : (c s : List ℤ) → (everyInRange c && everyInRange s) ≡ true ↔ (InRange c × InRange s)
 is-in-range c s = (
   λ e. (record { entry = entry-in-range c (and-left (everyInRange c) (everyInRange s) e) }, record { entry = entry-in-range s (and-right (everyInRange c) (everyInRange s) e) }),
-  λ h. rw (all-in c (h .0 .entry), all-in s (h .1 .entry)),
+  λ h. rw (every-small c (λ k b. h .0 .entry k), every-small s (λ k b. h .1 .entry k)),
 )
 
 clash : {X : Type 0} → true ≡ false → X

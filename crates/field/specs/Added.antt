@@ -1,6 +1,6 @@
 -- "Added to the field": what correcting entries of a lent list means.
 use mathlib.Core.List.{List}
-use Prim.Native.Nat.{ℕ, zero, suc, _+_}
+use Prim.Native.Nat.{ℕ, zero, suc}
 use lib.IntN.{ℤ, pos, _+ℤ_}
 use lib.ListN.{getD, set, length}
 
@@ -13,6 +13,6 @@ unfoldable pub added : (ℕ → ℕ) → (ℕ → ℤ) → ℕ → List ℤ → 
 added at d zero l = l
 added at d (suc n) l = corrected (added at d n l) (at n) (d n)
 
--- the corrections of a list, at places one after the other
-abbrev pub addedFrom : ℕ → List ℤ → List ℤ → List ℤ
-addedFrom from by l = added (λ k. from + k) (λ k. getD by k (pos 0)) (length by) l
+-- the corrections of a list, each at its place of a list of places
+unfoldable pub addedAt : List ℕ → List ℤ → List ℤ → List ℤ
+addedAt places by l = added (λ k. getD places k 0) (λ k. getD by k (pos 0)) (length places) l

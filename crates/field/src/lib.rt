@@ -1,12 +1,13 @@
 // The field (document 01, "Units and the field"): two lent lists of signed counts, what refuses them, and the one writer to them.
 ghost use mathlib.Core.Path.{_≡_};
-ghost use Prim.Native.Nat.{_^_, _≤_, _<_};
+ghost use mathlib.Core.Bool.{true};
+ghost use Prim.Native.Nat.{_+_, _%_, _^_, _≤_, _<_};
 ghost use lib.IntN.{natAbs, pos};
 ghost use lib.ListN.{length, getD};
 ghost use Rattle.refusals.specs.Numbers.{answerNumber};
-ghost use Rattle.field.specs.Added.{corrected, addedFrom};
+ghost use Rattle.field.specs.Added.{corrected};
 ghost use Rattle.field.specs.Field.{size, everyInRange, shapedBy, fieldRefusal};
-ghost use Rattle.field.specs.Inner.{Ready};
+ghost use Rattle.field.specs.Inner.{Ready, addedFrom};
 use refusals::Answer;
 use refusals::Refusal;
 
@@ -24,6 +25,41 @@ fn every_in_range(list: &[i64]) -> bool
         }
     }
     true
+}
+
+// x modulo 2^64: no instruction once compiled.
+fn bits_of(x: i64) -> u64
+    ensures { λ r. ⌜ ((r + 2 ^ 60) % 2 ^ 64 < 2 ^ 61 → natAbs x ≤ 2 ^ 60) ⌝ }
+{
+    if x < 0 {
+        18446744073709551615 - ((-1 - x) as u64)
+    } else {
+        x as u64
+    }
+}
+
+// Whether every entry, raised by 2^60, is below 2^61, by the bits of all together: one pass without a branch.
+fn are_small(list: &[i64]) -> bool
+    ensures { λ r. ⌜ (r ≡ true → everyInRange (now (list .entry)) ≡ true) ⌝ }
+{
+    let mut any: u64 = 0;
+    let mut i = 0;
+    while i < list.len() {
+        any = any | std::num::wrapping_add_u64(bits_of(list[i]), 1152921504606846976);
+        i += 1;
+    }
+    any < 2305843009213693952
+}
+
+// The quick test first; where it says no, each entry's own.
+fn all_in_range(list: &[i64]) -> bool
+    ensures { λ r. ⌜ r ≡ everyInRange (now (list .entry)) ⌝ }
+{
+    if are_small(list) {
+        true
+    } else {
+        every_in_range(list)
+    }
 }
 
 // The entries of a list of degree n.
@@ -52,7 +88,7 @@ pub fn tested(n: u32, c: &[i64], s: &[i64]) -> Answer
     ensures { λ r. ⌜ answerNumber r ≡ fieldRefusal n (now (c .entry)) (now (s .entry)) ⌝ }
 {
     if is_shaped(n, c.len(), s.len()) {
-        if every_in_range(c) & every_in_range(s) {
+        if all_in_range(c) & all_in_range(s) {
             Answer::Accepted
         } else {
             Answer::Refused(Refusal::FieldRange)

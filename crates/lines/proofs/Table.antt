@@ -1,17 +1,26 @@
 -- The printed lines as a table: its columns, and its rule.
 use borrow.Author.Tests.{leb-true}
-use mathlib.Core.Path.{_≡_, refl}
+use mathlib.Core.Path.{_≡_, refl, sym, ap, _∙_}
 use mathlib.Core.Bool.{Bool, true, _&&_}
 use mathlib.Core.List.{List, [], _∷_, map}
 use Prim.Native.Nat.{ℕ, zero, suc, _≤_, _<_}
 use native.Mathlib.Nat.{not-suc-le-zero, le-of-suc-le-suc}
 use native.Mathlib.Omega.{arith}
 use lib.Dec.{T, ltb, leb, eqb}
-use lib.IntN.{natAbs}
+use lib.IntN.{ℤ, pos, natAbs}
 use lib.ListN.{length, getD}
+use mir.Syntax.{w64}
+use mir.Val.{toZ, ofZ}
+use mir.Facts.{toZ-ofZ}
+use Rattle.whole.proofs.Parts.{fits-abs, abs-product}
+use Rattle.bands.specs.declared.Band.{Band}
+use Rattle.bands.specs.declared.Band.the-variants.{Diurnal, LongPeriod, Semidiurnal}
+use Rattle.choices.specs.declared.LoveModel.{LoveModel}
+use Rattle.choices.specs.declared.LoveModel.the-variants.{Elastic, Anelastic}
 use Rattle.whole.proofs.Tests.{and-left, and-right}
-use Rattle.doodson.specs.Doodson.{isDoodson, digit}
-use Rattle.lines.specs.Lines.{diurnal, longPeriod, semidiurnal, printed, lineAt, nowhere, Printed}
+use Rattle.doodson.specs.Doodson.{isDoodson, digit, multipliersIn}
+use Rattle.lines.specs.Lines.{diurnal, longPeriod, semidiurnal, printed, lineAt, multipliersAt, bandAt, inCounts, inModel, printedLine, nowhere, Printed}
+use Rattle.lines.specs.Inner.{digitsOf, numberIn, multipliersBy, digits, firsts, seconds}
 
 pub count : length printed ≡ 49
 unfolding printed diurnal longPeriod semidiurnal
@@ -53,3 +62,62 @@ each-small (l ∷ ls) e (suc i) = each-small ls (and-right (leb (natAbs (l .firs
 pub amplitudes-small : (i : ℕ) → (natAbs (lineAt i .first) ≤ 4720) × (natAbs (lineAt i .second) ≤ 4720)
 unfolding small lineAt printed diurnal longPeriod semidiurnal
 amplitudes-small i = each-small printed refl i
+
+-- so no printed line has more than 472,000 counts in phase or out of it, in either model
+counts-small : (a : ℤ) → natAbs a ≤ 4720 → natAbs (inCounts a) ≤ 472000
+counts-small a h = omega (arith, abs-product a (pos 100))
+
+model-small : (band : Band) (love : LoveModel) (a b : ℤ) → natAbs a ≤ 4720 → natAbs b ≤ 4720
+    → (natAbs (inModel band love a b .ip) ≤ 472000) × (natAbs (inModel band love a b .op) ≤ 472000)
+unfolding inModel
+model-small Diurnal Elastic a b ha hb = (counts-small a ha, omega arith)
+model-small Diurnal Anelastic a b ha hb = (counts-small b hb, omega arith)
+model-small LongPeriod Elastic a b ha hb = (omega arith, omega arith)
+model-small LongPeriod Anelastic a b ha hb = (counts-small a ha, counts-small b hb)
+model-small Semidiurnal love a b ha hb = (counts-small a ha, omega arith)
+
+pub printed-small : (love : LoveModel) (i : ℕ) → (natAbs (printedLine love i .ip) ≤ 472000) × (natAbs (printedLine love i .op) ≤ 472000)
+unfolding printedLine
+printed-small love i = model-small (bandAt i) love (lineAt i .first) (lineAt i .second) (amplitudes-small i .0) (amplitudes-small i .1)
+
+-- ---- the columns as the code has them
+module _ (f : Printed → ℤ) (most : (i : ℕ) → natAbs (f (lineAt i)) ≤ 4720) (l : List ℤ) (i : ℕ) (h : i < 49) where
+  amplitude-read : l ≡ map f printed → toZ w64 (ofZ w64 (getD l i (pos 0))) ≡ f (lineAt i)
+  amplitude-read e =
+      ap (λ (z : ℤ). toZ w64 (ofZ w64 z)) (ap (λ (m : List ℤ). getD m i (pos 0)) e ∙ column f i (pos 0) h)
+      ∙ toZ-ofZ (fits-abs w64 (f (lineAt i)) (omega (arith, most i)))
+
+pub first-read : (l : List ℤ) (i : ℕ) → i < 49 → l ≡ firsts → toZ w64 (ofZ w64 (getD l i (pos 0))) ≡ lineAt i .first
+unfolding firsts
+first-read = amplitude-read (λ (l : Printed). l .first) (λ i. amplitudes-small i .0)
+
+pub second-read : (l : List ℤ) (i : ℕ) → i < 49 → l ≡ seconds → toZ w64 (ofZ w64 (getD l i (pos 0))) ≡ lineAt i .second
+unfolding seconds
+second-read = amplitude-read (λ (l : Printed). l .second) (λ i. amplitudes-small i .1)
+
+-- what the hexadecimal digits of a printed number write is what its decimal ones do
+numbers-agree : map (λ (l : Printed). numberIn (digitsOf (l .number))) printed ≡ map (λ (l : Printed). l .number) printed
+unfolding numberIn digitsOf printed diurnal longPeriod semidiurnal
+numbers-agree = refl
+
+multipliers-agree : map (λ (l : Printed). multipliersBy (digitsOf (l .number))) printed ≡ map (λ (l : Printed). multipliersIn (l .number)) printed
+unfolding multipliersBy multipliersIn digitsOf printed diurnal longPeriod semidiurnal
+multipliers-agree = refl
+
+-- a value of each line, found in one way and in another
+agree : {B : Type 0} (f g : Printed → B) → map f printed ≡ map g printed → (i : ℕ) (e : B) → i < 49 → f (lineAt i) ≡ g (lineAt i)
+agree f g same i e h = sym (column f i e h) ∙ ap (λ (l : List _). getD l i e) same ∙ column g i e h
+
+module _ (l : List ℕ) (i : ℕ) (h : i < 49) (e : l ≡ digits) where
+  digits-read : getD l i 0 ≡ digitsOf (lineAt i .number)
+  unfolding digits
+  digits-read = ap (λ (m : List ℕ). getD m i 0) e ∙ column (λ (p : Printed). digitsOf (p .number)) i 0 h
+
+  pub number-read : numberIn (getD l i 0) ≡ lineAt i .number
+  number-read = ap numberIn digits-read ∙ agree (λ (p : Printed). numberIn (digitsOf (p .number))) (λ (p : Printed). p .number) numbers-agree i 0 h
+
+  pub multipliers-read : multipliersBy (getD l i 0) ≡ multipliersAt i
+  unfolding multipliersAt
+  multipliers-read =
+      ap multipliersBy digits-read
+      ∙ agree (λ (p : Printed). multipliersBy (digitsOf (p .number))) (λ (p : Printed). multipliersIn (p .number)) multipliers-agree i (multipliersIn 0) h

@@ -2,12 +2,19 @@
 use mathlib.Core.Bool.{cond}
 use mathlib.Core.List.{List, [], _∷_, _++_}
 use Prim.Native.Nat.{ℕ, _+_}
-use lib.Dec.{eqb}
-use lib.IntN.{ℤ, pos, negℤ}
+use lib.Dec.{ltb, eqb}
+use lib.IntN.{ℤ, pos, negℤ, _*ℤ_}
 use lib.ListN.{getD}
 use Rattle.arguments.specs.declared.Multipliers.{Multipliers}
-use Rattle.refusals.specs.Told.{Told}
+use Rattle.arguments.specs.declared.Phases.{Phases}
+use Rattle.arguments.specs.Phase.{phase}
+use Rattle.bands.specs.declared.Band.{Band}
+use Rattle.bands.specs.declared.Band.the-variants.{Diurnal, LongPeriod, Semidiurnal}
+use Rattle.bands.specs.declared.Line.{Line as BandLine}
+use Rattle.choices.specs.declared.LoveModel.{LoveModel}
+use Rattle.choices.specs.declared.LoveModel.the-variants.{Elastic, Anelastic}
 use Rattle.refusals.specs.Numbers.{refusalNumber}
+use Rattle.refusals.specs.Told.{Told}
 use Rattle.refusals.specs.Told.Told.{accepted, refused}
 use Rattle.doodson.specs.Doodson.{isDoodson, multipliersIn}
 use Rattle.lines.specs.declared.Sought.{Sought}
@@ -107,6 +114,29 @@ lineAt i = getD printed i nowhere
 -- a printed line's multipliers are those in its number
 unfoldable pub multipliersAt : ℕ → Multipliers
 multipliersAt i = multipliersIn (lineAt i .number)
+
+-- its phase at six arguments
+abbrev pub linePhase : Phases → ℕ → ℕ
+linePhase phases i = phase (multipliersAt i) phases
+
+-- index 0..48: diurnal, long period, semidiurnal
+unfoldable pub bandAt : ℕ → Band
+bandAt i = cond (ltb i 26) Diurnal (cond (ltb i 47) LongPeriod Semidiurnal)
+
+-- amplitudes are tenths of 10^-12, that is 100 counts
+abbrev pub inCounts : ℤ → ℤ
+inCounts a = a *ℤ pos 100
+
+-- diurnal, elastic/anelastic; long period, anelastic only, ip/op; semidiurnal, both models
+unfoldable pub inModel : Band → LoveModel → ℤ → ℤ → BandLine
+inModel Diurnal Elastic a b = record { band = Diurnal; ip = inCounts a; op = pos 0 }
+inModel Diurnal Anelastic a b = record { band = Diurnal; ip = inCounts b; op = pos 0 }
+inModel LongPeriod Elastic a b = record { band = LongPeriod; ip = pos 0; op = pos 0 }
+inModel LongPeriod Anelastic a b = record { band = LongPeriod; ip = inCounts a; op = inCounts b }
+inModel Semidiurnal love a b = record { band = Semidiurnal; ip = inCounts a; op = pos 0 }
+
+unfoldable pub printedLine : LoveModel → ℕ → BandLine
+printedLine love i = inModel (bandAt i) love (lineAt i .first) (lineAt i .second)
 
 -- the answer: an index and the two amplitudes there
 pub record Found : Type 0 where

@@ -1,61 +1,66 @@
 // The 49 printed lines (001, Tables 6.2; document 01, "Step two"): diurnal, long period, semidiurnal.
 ghost use mathlib.Core.Path.{_≡_};
-ghost use Prim.Native.Nat.{_<_};
-ghost use Rattle.lines.specs.Lines.{lineAt, multipliersAt, findLine, tells};
+ghost use Prim.Native.Nat.{_≤_, _<_};
+ghost use lib.IntN.{natAbs};
+ghost use Rattle.lines.specs.Lines.{lineAt, multipliersAt, bandAt, inModel, printedLine, findLine, tells};
+ghost use Rattle.lines.specs.Inner.{numberIn, multipliersBy, digits as digitsColumn, firsts, seconds};
 use arguments::Multipliers;
+use bands::Band;
+use bands::Line;
+use choices::LoveModel;
 use refusals::Refusal;
 
-// Doodson numbers.
-const NUMBERS: [u32; 49] = [
-    135645,
-    135655,
-    137455,
-    145545,
-    145555,
-    153655,
-    155455,
-    155655,
-    155665,
-    157455,
-    162556,
-    163545,
-    163555,
-    164556,
-    165545,
-    165555,
-    165565,
-    165575,
-    166554,
-    167555,
-    173655,
-    175455,
-    175465,
-    183555,
-    185555,
-    185565,
-    55565,
-    55575,
-    56554,
-    57555,
-    57565,
-    58554,
-    63655,
-    65445,
-    65455,
-    65465,
-    65655,
-    73555,
-    75355,
-    75555,
-    75565,
-    75575,
-    83655,
-    85455,
-    85465,
-    93555,
-    95355,
-    245655,
-    255555,
+// Doodson numbers, a decimal digit written as a hexadecimal one, so that reading a digit takes no division.
+const DIGITS: [u32; 49] = [
+    0x135645,
+    0x135655,
+    0x137455,
+    0x145545,
+    0x145555,
+    0x153655,
+    0x155455,
+    0x155655,
+    0x155665,
+    0x157455,
+    0x162556,
+    0x163545,
+    0x163555,
+    0x164556,
+    0x165545,
+    0x165555,
+    0x165565,
+    0x165575,
+    0x166554,
+    0x167555,
+    0x173655,
+    0x175455,
+    0x175465,
+    0x183555,
+    0x185555,
+    0x185565,
+    0x055565,
+    0x055575,
+    0x056554,
+    0x057555,
+    0x057565,
+    0x058554,
+    0x063655,
+    0x065445,
+    0x065455,
+    0x065465,
+    0x065655,
+    0x073555,
+    0x075355,
+    0x075555,
+    0x075565,
+    0x075575,
+    0x083655,
+    0x085455,
+    0x085465,
+    0x093555,
+    0x095355,
+    0x245655,
+    0x255555,
 ];
 
 // The two amplitudes, in tenths of 10^-12: elastic and anelastic, ip and op, a semidiurnal one twice.
@@ -163,6 +168,110 @@ const SECOND: [i64; 49] = [
     -12,
 ];
 
+// The printed tables. A call takes them once and looks its lines up there.
+pub struct Tables {
+    pub digits: [u32; 49],
+    pub first: [i64; 49],
+    pub second: [i64; 49],
+}
+
+pub fn printed_tables() -> Tables
+    ensures { λ r. ⌜ (r .digits ≡ digitsColumn) × ((r .first ≡ firsts) × (r .second ≡ seconds)) ⌝ }
+{
+    Tables {
+        digits: DIGITS,
+        first: FIRST,
+        second: SECOND,
+    }
+}
+
+// The number that the digits write.
+fn number_in(digits: u32) -> u32
+    ensures { λ r. ⌜ r ≡ numberIn digits ⌝ }
+{
+    digits / 1048576 % 16 * 100000
+        + digits / 65536 % 16 * 10000
+        + digits / 4096 % 16 * 1000
+        + digits / 256 % 16 * 100
+        + digits / 16 % 16 * 10
+        + digits % 16
+}
+
+// The multipliers that the digits write.
+pub fn multipliers_by(digits: u32) -> Multipliers
+    ensures { λ r. ⌜ r ≡ multipliersBy digits ⌝ }
+{
+    Multipliers {
+        tau: (digits / 1048576 % 16) as i32,
+        s: doodson::multiplier_of(digits / 65536 % 16),
+        h: doodson::multiplier_of(digits / 4096 % 16),
+        p: doodson::multiplier_of(digits / 256 % 16),
+        np: doodson::multiplier_of(digits / 16 % 16),
+        ps: doodson::multiplier_of(digits % 16),
+    }
+}
+
+// The band of a line, by its index.
+fn band_at(i: usize) -> Band
+    ensures { λ r. ⌜ r ≡ bandAt i ⌝ }
+{
+    if i < 26 {
+        Band::Diurnal
+    } else if i < 47 {
+        Band::LongPeriod
+    } else {
+        Band::Semidiurnal
+    }
+}
+
+// A line of a band in a Love model, from its two printed amplitudes.
+fn line_in(band: Band, love: LoveModel, first: i64, second: i64) -> Line
+    requires { ⌜ (natAbs first ≤ 4720) × (natAbs second ≤ 4720) ⌝ }
+    ensures { λ r. ⌜ r ≡ inModel band love first second ⌝ }
+{
+    let elastic = first * 100;
+    let anelastic = second * 100;
+    match band {
+        Band::Diurnal => match love {
+            LoveModel::Elastic => Line {
+                band: Band::Diurnal,
+                ip: elastic,
+                op: 0,
+            },
+            LoveModel::Anelastic => Line {
+                band: Band::Diurnal,
+                ip: anelastic,
+                op: 0,
+            },
+        },
+        Band::LongPeriod => match love {
+            LoveModel::Elastic => Line {
+                band: Band::LongPeriod,
+                ip: 0,
+                op: 0,
+            },
+            LoveModel::Anelastic => Line {
+                band: Band::LongPeriod,
+                ip: elastic,
+                op: anelastic,
+            },
+        },
+        Band::Semidiurnal => Line {
+            band: Band::Semidiurnal,
+            ip: elastic,
+            op: 0,
+        },
+    }
+}
+
+// Printed line i in a Love model.
+pub fn printed_line(first: &[i64; 49], second: &[i64; 49], love: LoveModel, i: usize) -> Line
+    requires { ⌜ (i < 49) × ((now first ≡ firsts) × (now second ≡ seconds)) ⌝ }
+    ensures { λ r. ⌜ r ≡ printedLine love i ⌝ }
+{
+    line_in(band_at(i), love, first[i], second[i])
+}
+
 pub enum Sought {
     Line {
         index: usize,
@@ -170,35 +279,6 @@ pub enum Sought {
         second: i64,
     },
     Refused(Refusal),
-}
-
-fn number_at(i: usize) -> u32
-    requires { ⌜ i < 49 ⌝ }
-    ensures { λ r. ⌜ r ≡ lineAt i .number ⌝ }
-{
-    NUMBERS[i]
-}
-
-pub fn first_at(i: usize) -> i64
-    requires { ⌜ i < 49 ⌝ }
-    ensures { λ r. ⌜ r ≡ lineAt i .first ⌝ }
-{
-    FIRST[i]
-}
-
-pub fn second_at(i: usize) -> i64
-    requires { ⌜ i < 49 ⌝ }
-    ensures { λ r. ⌜ r ≡ lineAt i .second ⌝ }
-{
-    SECOND[i]
-}
-
-// The multipliers that a line's number writes.
-pub fn multipliers_at(i: usize) -> Multipliers
-    requires { ⌜ i < 49 ⌝ }
-    ensures { λ r. ⌜ r ≡ multipliersAt i ⌝ }
-{
-    doodson::multipliers_in(number_at(i))
 }
 
 // Given: a Doodson number.
@@ -210,13 +290,17 @@ pub fn find_line(number: u32) -> Sought
     if !doodson::is_doodson(number) {
         return Sought::Refused(Refusal::NotDoodson);
     }
+    let t = printed_tables();
+    let digits = t.digits;
+    let first = t.first;
+    let second = t.second;
     let mut i = 0;
     while i < 49 {
-        if number_at(i) == number {
+        if number_in(digits[i]) == number {
             return Sought::Line {
                 index: i,
-                first: first_at(i),
-                second: second_at(i),
+                first: first[i],
+                second: second[i],
             };
         }
         i += 1;

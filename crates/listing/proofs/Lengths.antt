@@ -13,8 +13,8 @@ use Rattle.arguments.specs.declared.Phases.{Phases}
 use Rattle.choices.specs.declared.LoveModel.the-variants.{Elastic, Anelastic}
 use Rattle.phase_bytes.specs.PhaseBytes.{phasesOf}
 use Rattle.step_two.specs.declared.Corrections.{Corrections}
-use Rattle.step_two.specs.Room.{Small}
-use Rattle.step_two.proofs.Bands.{corrections-small}
+use Rattle.step_two.specs.Inner.{Small}
+use Rattle.step_two.proofs.Sizes.{corrections-small}
 use Rattle.text.specs.Inner.{Put}
 use Rattle.text.specs.Text.{ascii}
 use Rattle.listing.specs.Listing.{modelText, modelsText, listingOf, Listed}

@@ -10,7 +10,7 @@ use Rattle.refusals.proofs.Outcomes.{first-none}
 use Rattle.sheet.specs.Accepted.{ownRefusal, sheetRefusal}
 use Rattle.sheet.specs.Sheet.{placeCount, degree, order}
 use Rattle.sheet.proofs.Acceptance.{accepted, accepted-for, index}
-use Rattle.places.specs.Held.{Wide}
+use Rattle.ocean.specs.Inner.{Wide}
 use Rattle.ocean.specs.Ocean.{oceanRefusal}
 
 pub passing : (n : ℕ) (c s : List ℤ) (sheet : List ℕ) → oceanRefusal n c s sheet ≡ 0 → (ownRefusal sheet ≡ 0) × (Wide sheet c × Wide sheet s)

@@ -1,2 +1,2 @@
 pub mod Ocean
-pub mod Tided
+pub mod Inner

@@ -2,13 +2,14 @@
 ghost use mathlib.Core.Path.{_≡_};
 ghost use Rattle.refusals.specs.Numbers.{answerNumber};
 ghost use Rattle.refusals.specs.Outcome.{Gives};
-ghost use Rattle.places.specs.Held.{Wide};
-ghost use Rattle.sheet.specs.Accepted.{ownRefusal};
+ghost use Rattle.places.specs.Inner.{WithFactors};
+ghost use Rattle.sheet.specs.Read.{Passed};
 ghost use Rattle.ocean.specs.Ocean.{oceanRefusal, oceanTide};
-ghost use Rattle.ocean.specs.Tided.{Tided};
+ghost use Rattle.ocean.specs.Inner.{Wide, PlacesAdded, TideAdded};
 use arguments::Phases;
 use choices::Frame;
 use refusals::Answer;
+use sheet::Layout;
 
 // Refusals 1, 2, 7, 8 and 9.
 fn tested(n: u32, c: &[i64], s: &[i64], sheet: &[u8]) -> Answer
@@ -20,19 +21,39 @@ fn tested(n: u32, c: &[i64], s: &[i64], sheet: &[u8]) -> Answer
     }
 }
 
-// Each line's waves once, each tide's factors once, then both lists.
-fn add_tide(c: &mut [i64], s: &mut [i64], sheet: &[u8], b: Phases, frame: Frame)
-    requires { ⌜ (ownRefusal (now sheet) ≡ 0) × (Wide (now sheet) (now c) × Wide (now sheet) (now s)) ⌝ }
-    ensures { λ _. ⌜ Tided (now (sheet .entry)) b frame (now (c .entry)) (now (s .entry)) (now (c .exit)) (now (s .exit)) ⌝ }
+// The corrections of all places, from the factors of the sheet's tides, added to both lists.
+fn add_places(
+    c: &mut [i64],
+    s: &mut [i64],
+    sheet: &[u8],
+    l: Layout,
+    frame: Frame,
+    fcos: &[i64; 32],
+    fsin: &[i64; 32],
+)
+    requires { ⌜ WithFactors (now sheet) l (now fcos) (now fsin) × (Wide (now sheet) (now c) × Wide (now sheet) (now s)) ⌝ }
+    ensures { λ _. ⌜ PlacesAdded (now (sheet .entry)) frame (now (fcos .entry)) (now (fsin .entry)) (now (c .entry)) (now (s .entry)) (now (c .exit)) (now (s .exit)) ⌝ }
 {
-    let l = sheet::layout_of(sheet);
-    let waves = tides::waves_of(sheet, l.lines, b);
-    let cosines = waves.cosines;
-    let sines = waves.sines;
-    let fcos = tides::factors_of(sheet, l, &cosines);
-    let fsin = tides::factors_of(sheet, l, &sines);
-    places::add_places(c, sheet, l, frame, 0, 2, &fcos, &fsin);
-    places::add_places(s, sheet, l, frame, 1, 3, &fcos, &fsin);
+    let places = l.places;
+    let mut j: usize = 0;
+    while j < places {
+        let at = places::index_of(sheet, l, j);
+        let by = places::correction_of(sheet, l, j, frame, fcos, fsin);
+        field::correct(c, at, by.c);
+        field::correct(s, at, by.s);
+        j += 1;
+    }
+}
+
+// The ocean tide of a sheet that passed its tests, added to lists that have its places: each tide's factors once, then each place once.
+pub fn add_tide(c: &mut [i64], s: &mut [i64], sheet: &[u8], l: Layout, phases: Phases, frame: Frame)
+    requires { ⌜ Passed (now sheet) l × (Wide (now sheet) (now c) × Wide (now sheet) (now s)) ⌝ }
+    ensures { λ _. ⌜ TideAdded (now (sheet .entry)) phases frame (now (c .entry)) (now (s .entry)) (now (c .exit)) (now (s .exit)) ⌝ }
+{
+    let mut fcos = [0i64; 32];
+    let mut fsin = [0i64; 32];
+    tides::fill_factors(sheet, l, phases, &mut fcos, &mut fsin);
+    add_places(c, s, sheet, l, frame, &fcos, &fsin);
 }
 
 // Given: a field's degree and its two lent lists, a model sheet's bytes, six phases, the frame.
@@ -44,14 +65,15 @@ pub fn ocean_tide(
     c: &mut [i64],
     s: &mut [i64],
     sheet: &[u8],
-    b: Phases,
+    phases: Phases,
     frame: Frame,
 ) -> Answer
-    ensures { λ r. ⌜ Gives (oceanTide n (now (c .entry)) (now (s .entry)) (now (sheet .entry)) b frame) (answerNumber r) (now (c .exit)) (now (s .exit)) ⌝ }
+    ensures { λ r. ⌜ Gives (oceanTide n (now (c .entry)) (now (s .entry)) (now (sheet .entry)) phases frame) (answerNumber r) (now (c .exit)) (now (s .exit)) ⌝ }
 {
     let answer = tested(n, c, s, sheet);
     if let Answer::Accepted = answer {
-        add_tide(c, s, sheet, b, frame);
+        let l = sheet::layout_of(sheet);
+        add_tide(c, s, sheet, l, phases, frame);
     }
     answer
 }

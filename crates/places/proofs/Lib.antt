@@ -1,4 +1,3 @@
 pub mod Sizes
-pub mod Added
 pub mod Same
 pub mod Zonal

@@ -14,6 +14,7 @@ use Rattle.sheet.specs.Sheet.{tideCount, degree, coefficient}
 use Rattle.tides.proofs.Factors.{sum-same}
 use Rattle.whole.specs.Nearest.{nearest}
 use Rattle.whole.specs.Sum.{sumTo}
+use Rattle.whole.proofs.Rounding.{nearest-zero}
 use Rattle.places.specs.Places.{placeSum, skipped, unlessSkipped, correction}
 
 sum-zero : (n : ℕ) → sumTo (λ k. pos 0) n ≡ pos 0
@@ -29,12 +30,12 @@ module _ (s : List ℕ) (C S : ℕ → ℤ) (p q j : ℕ) (P : (k : ℕ) → k <
       ∙ sum-zero (tideCount s)
 
   pub no-correction : (frame : Frame) → correction s frame C S p q j ≡ pos 0
-  unfolding correction unlessSkipped nearest
+  unfolding correction unlessSkipped
   no-correction frame = ap (λ (z : ℤ). cond (skipped frame (degree s j)) (pos 0) (nearest z (2 ^ 30))) no-sum ∙ by-test (skipped frame (degree s j))
     where
       by-test : (t : Bool) → cond t (pos 0) (nearest (pos 0) (2 ^ 30)) ≡ pos 0
       by-test true = refl
-      by-test false = refl
+      by-test false = nearest-zero (2 ^ 30) (omega arith)
 
 pub zonal-place : (m n k : ℕ) → k ≤ n → place m 0 ≡ place n k → k ≡ 0
 unfolding place

@@ -1,13 +1,12 @@
--- Document 01, "Model sheet and ocean tide (002)": the correction of each place, and what adding them means.
+-- Document 01, "Model sheet and ocean tide (002)": the correction of each place.
 use mathlib.Core.Bool.{Bool, false, cond}
 use mathlib.Core.List.{List}
-use Prim.Native.Nat.{ℕ, zero, suc, _^_}
+use Prim.Native.Nat.{ℕ, _^_}
 use lib.Dec.{eqb}
 use lib.IntN.{ℤ, pos, _+ℤ_, _*ℤ_}
 use Rattle.choices.specs.declared.Frame.{Frame}
 use Rattle.choices.specs.declared.Frame.the-variants.{CentreOfFigure, CentreOfMass}
 use Rattle.field.specs.Field.{place}
-use Rattle.field.specs.Added.{corrected}
 use Rattle.sheet.specs.Sheet.{tideCount, degree, order, coefficient}
 use Rattle.whole.specs.Nearest.{nearest}
 use Rattle.whole.specs.Sum.{sumTo}
@@ -29,7 +28,6 @@ unlessSkipped s frame j z = cond (skipped frame (degree s j)) (pos 0) z
 unfoldable pub correction : List ℕ → Frame → (ℕ → ℤ) → (ℕ → ℤ) → ℕ → ℕ → ℕ → ℤ
 correction s frame C S p q j = unlessSkipped s frame j (nearest (placeSum s C S p q j) (2 ^ 30))
 
--- ---- "Added to the field": d 0, d 1, .. at the first n places of the sheet
-unfoldable pub added : List ℕ → (ℕ → ℤ) → List ℤ → ℕ → List ℤ
-added s d l zero = l
-added s d l (suc j) = corrected (added s d l j) (place (degree s j) (order s j)) (d j)
+-- ---- where place j stands in a list
+abbrev pub indexOf : List ℕ → ℕ → ℕ
+indexOf s j = place (degree s j) (order s j)

@@ -1,29 +1,55 @@
-// The corrections of a sheet's places (002; document 01, "Model sheet and ocean tide"), added to a list.
+// The correction of each place of a sheet (002; document 01, "Model sheet and ocean tide"), and where it stands in a list.
 ghost use mathlib.Core.Path.{_≡_};
-ghost use Prim.Native.Nat.{_<_};
-ghost use Rattle.field.specs.Field.{place};
+ghost use Prim.Native.Nat.{_+_, _*_, _^_, _<_};
+ghost use lib.IntN.{natAbs, _+ℤ_, _*ℤ_};
 ghost use Rattle.sheet.specs.Read.{Passed};
-ghost use Rattle.sheet.specs.Sheet.{tideCount, placeCount, degree, order};
-ghost use Rattle.tides.specs.Tides.{held, Sized};
-ghost use Rattle.places.specs.Places.{skipped, correction};
-ghost use Rattle.places.specs.Held.{columnSum, Ready, Wide, placesAdded};
+ghost use Rattle.sheet.specs.Sheet.{placeCount};
+ghost use Rattle.places.specs.Places.{skipped, indexOf};
+ghost use Rattle.places.specs.Inner.{WithFactors, Summed, Corrects};
 use choices::Frame;
 use sheet::Layout;
 
-// One column of place j, times the tides' factors, not rounded.
-fn column_sum(sheet: &[u8], l: Layout, j: usize, q: usize, factors: &[i64; 32]) -> i64
-    requires { ⌜ Passed (now sheet) l × ((j < placeCount (now sheet)) × ((q < 4) × Sized 32 (tideCount (now sheet)) (now factors))) ⌝ }
-    ensures { λ r. ⌜ r ≡ columnSum (now (sheet .entry)) (held (now (factors .entry))) q j ⌝ }
+// What a place's C and S gain, in counts.
+pub struct Correction {
+    pub c: i64,
+    pub s: i64,
+}
+
+// A place's two sums over the tides, in 2^-30 counts.
+pub struct PlaceSums {
+    pub c: i64,
+    pub s: i64,
+}
+
+// A running sum with one tide more: its factors times its cos and sin counts.
+fn plus_tide(sum: i64, f: i64, cos: i64, g: i64, sin: i64) -> i64
+    requires { ⌜ natAbs sum + natAbs f * natAbs cos + natAbs g * natAbs sin < 2 ^ 63 ⌝ }
+    ensures { λ r. ⌜ r ≡ sum +ℤ (f *ℤ cos +ℤ g *ℤ sin) ⌝ }
+{
+    sum + f * cos + g * sin
+}
+
+// Both sums of place j in one pass over its words, not rounded.
+fn place_sums(sheet: &[u8], l: Layout, j: usize, fcos: &[i64; 32], fsin: &[i64; 32]) -> PlaceSums
+    requires { ⌜ WithFactors (now sheet) l (now fcos) (now fsin) × (j < placeCount (now sheet)) ⌝ }
+    ensures { λ r. ⌜ Summed (now (sheet .entry)) (now (fcos .entry)) (now (fsin .entry)) j r ⌝ }
 {
     let tides = l.tides;
-    let mut sum: i64 = 0;
+    let mut c: i64 = 0;
+    let mut s: i64 = 0;
     let mut k: usize = 0;
     while k < tides {
-        let a = sheet::coefficient_at(sheet, l, j, k, q);
-        sum = whole::plus_product(sum, factors[k], a);
+        let f = fcos[k];
+        let g = fsin[k];
+        let c_cos = sheet::coefficient_at(sheet, l, j, k, 0);
+        let s_cos = sheet::coefficient_at(sheet, l, j, k, 1);
+        let c_sin = sheet::coefficient_at(sheet, l, j, k, 2);
+        let s_sin = sheet::coefficient_at(sheet, l, j, k, 3);
+        c = plus_tide(c, f, c_cos, g, c_sin);
+        s = plus_tide(s, f, s_cos, g, s_sin);
         k += 1;
     }
-    sum
+    PlaceSums { c: c, s: s }
 }
 
 // Degree 1 in the centre-of-mass frame, and nothing else.
@@ -36,58 +62,33 @@ fn is_skipped(frame: Frame, degree: usize) -> bool
     }
 }
 
-// The correction of place j, by its cos and sin columns.
-fn correction_of(
+// The correction of place j, from the factors of the sheet's tides.
+pub fn correction_of(
     sheet: &[u8],
     l: Layout,
     j: usize,
     frame: Frame,
-    p: usize,
-    q: usize,
-    cosines: &[i64; 32],
-    sines: &[i64; 32],
-) -> i64
-    requires { ⌜ Ready (now sheet) l (now cosines) (now sines) × ((j < placeCount (now sheet)) × ((p < 4) × (q < 4))) ⌝ }
-    ensures { λ r. ⌜ r ≡ correction (now (sheet .entry)) frame (held (now (cosines .entry))) (held (now (sines .entry))) p q j ⌝ }
+    fcos: &[i64; 32],
+    fsin: &[i64; 32],
+) -> Correction
+    requires { ⌜ WithFactors (now sheet) l (now fcos) (now fsin) × (j < placeCount (now sheet)) ⌝ }
+    ensures { λ r. ⌜ Corrects (now (sheet .entry)) frame (now (fcos .entry)) (now (fsin .entry)) j r ⌝ }
 {
     if is_skipped(frame, sheet::degree_at(sheet, l, j)) {
-        return 0;
+        return Correction { c: 0, s: 0 };
     }
-    whole::nearest_of(
-        column_sum(sheet, l, j, p, cosines) + column_sum(sheet, l, j, q, sines),
-        1073741824,
-    )
+    let sums = place_sums(sheet, l, j, fcos, fsin);
+    Correction {
+        c: whole::nearest_of(sums.c, 1073741824),
+        s: whole::nearest_of(sums.s, 1073741824),
+    }
 }
 
 // Where place j stands in a list.
-fn index_of(sheet: &[u8], l: Layout, j: usize) -> usize
+pub fn index_of(sheet: &[u8], l: Layout, j: usize) -> usize
     requires { ⌜ Passed (now sheet) l × (j < placeCount (now sheet)) ⌝ }
-    ensures { λ r. ⌜ r ≡ place (degree (now (sheet .entry)) j) (order (now (sheet .entry)) j) ⌝ }
+    ensures { λ r. ⌜ r ≡ indexOf (now (sheet .entry)) j ⌝ }
 {
     let degree = sheet::degree_at(sheet, l, j);
     degree * (degree + 1) / 2 + sheet::order_at(sheet, l, j)
-}
-
-// Adds the corrections of one list, C by columns 0 and 2, S by 1 and 3.
-pub fn add_places(
-    list: &mut [i64],
-    sheet: &[u8],
-    l: Layout,
-    frame: Frame,
-    p: usize,
-    q: usize,
-    cosines: &[i64; 32],
-    sines: &[i64; 32],
-)
-    requires { ⌜ Ready (now sheet) l (now cosines) (now sines) × ((p < 4) × ((q < 4) × Wide (now sheet) (now list))) ⌝ }
-    ensures { λ _. ⌜ now (list .exit) ≡ placesAdded (now (sheet .entry)) frame (now (cosines .entry)) (now (sines .entry)) p q (now (list .entry)) ⌝ }
-{
-    let places = l.places;
-    let mut j: usize = 0;
-    while j < places {
-        let at = index_of(sheet, l, j);
-        let by = correction_of(sheet, l, j, frame, p, q, cosines, sines);
-        field::correct(list, at, by);
-        j += 1;
-    }
 }

@@ -1,3 +1,5 @@
 pub mod Signs
 pub mod Offsets
+pub mod Flat
 pub mod Acceptance
+pub mod Table

@@ -6,26 +6,29 @@ use native.Mathlib.Nat.{mul-le-mul-left}
 use native.Mathlib.Omega.{arith}
 use lib.ListN.{length}
 use Rattle.sheet.specs.declared.Layout.{Layout}
-use Rattle.sheet.specs.Sheet.{halfAt, lineCount, tidesAt, tideCount, placeCount, rowAt, placeAt}
+use Rattle.sheet.specs.Sheet.{lineCount, lineStart, tidesStart, tideCount, placeCount, rowStart, placeStart}
+use Rattle.words.specs.Words.{halfAt}
 use Rattle.sheet.specs.Read.{Laid, Whole}
 
 -- item k of t items of n numbers each
 item-in : (n k t : ℕ) → k < t → n * k + n ≤ n * t
 item-in n k t h = omega (arith, mul-le-mul-left n h)
 
-module _ {s : List ℕ} {l : Layout} (a : Laid s l) where
-  pub row-is : (k : ℕ) → l .rows + 4 * (l .lines * k) ≡ rowAt s k
-  row-is k = omega (arith, ap (λ (n : ℕ). n * k) (a .lines))
-
-  pub place-is : (j : ℕ) → l .first + (2 + 16 * l .tides) * j ≡ placeAt s j
-  place-is j = omega (arith, ap (λ (n : ℕ). n * j) (a .tides))
-
 module _ {s : List ℕ} {l : Layout} (w : Whole s l) where
-  pub row-in : (k f : ℕ) → k < tideCount s → f < lineCount s → l .rows + 4 * (l .lines * k) + 4 * f + 3 < length s
-  row-in k f h g = omega (arith, row-is (w .laid) k, item-in (lineCount s) k (tideCount s) h, w .length)
+  pub line-in : (f : ℕ) → f < lineCount s → lineStart f + 6 ≤ length s
+  line-in f h = omega (arith, item-in 6 f (lineCount s) h, w .length)
 
-  pub place-in : (j : ℕ) → j < placeCount s → l .first + (2 + 16 * l .tides) * j + (2 + 16 * l .tides) ≤ length s
-  place-in j h = omega (arith, place-is (w .laid) j, item-in (2 + 16 * tideCount s) j (placeCount s) h, w .length, w .laid .tides)
+  pub row-in : (k : ℕ) → k < tideCount s → rowStart s k + 4 * lineCount s ≤ length s
+  row-in k h = omega (arith, item-in (lineCount s) k (tideCount s) h, w .length)
+
+  pub place-in : (j : ℕ) → j < placeCount s → placeStart s j + (2 + 16 * tideCount s) ≤ length s
+  place-in j h = omega (arith, item-in (2 + 16 * tideCount s) j (placeCount s) h, w .length)
+
+  pub row-is : (k : ℕ) → l .rows + 4 * (l .lines * k) ≡ rowStart s k
+  row-is k = omega (arith, ap (λ (n : ℕ). n * k) (w .laid .lines), w .laid .rows)
+
+  pub place-is : (j : ℕ) → l .first + (2 + 16 * l .tides) * j ≡ placeStart s j
+  place-is j = omega (arith, ap (λ (n : ℕ). n * j) (w .laid .tides), w .laid .first)
 
 -- each count read where the section before it ends
 module _ (s : List ℕ) (l t p : ℕ) (e : l ≡ halfAt s 0) (f : t ≡ halfAt s (2 + 6 * l)) (g : p ≡ halfAt s (2 + 6 * l + 2 + 4 * (l * t))) where
@@ -39,7 +42,7 @@ module _ (s : List ℕ) (l t p : ℕ) (e : l ≡ halfAt s 0) (f : t ≡ halfAt s
 
   places-are : p ≡ placeCount s
   unfolding placeCount
-  places-are = g ∙ ap (λ (n : ℕ). halfAt s (2 + 6 * n + 2 + 4 * (n * t))) lines-are ∙ ap (λ (n : ℕ). halfAt s (tidesAt s + 2 + 4 * (lineCount s * n))) tides-are
+  places-are = g ∙ ap (λ (n : ℕ). halfAt s (2 + 6 * n + 2 + 4 * (n * t))) lines-are ∙ ap (λ (n : ℕ). halfAt s (tidesStart s + 2 + 4 * (lineCount s * n))) tides-are
 
   pub laid : Laid s (record { lines = l; tides = t; places = p; rows = 2 + 6 * l + 2; first = 2 + 6 * l + 2 + 4 * (l * t) + 2; end = 2 + 6 * l + 2 + 4 * (l * t) + 2 + (2 + 16 * t) * p })
   laid =

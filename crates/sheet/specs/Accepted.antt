@@ -1,41 +1,48 @@
 -- Document 01, "Model sheet and ocean tide" and refusals 7, 8 and 9: the sheet that is accepted.
 use mathlib.Core.Bool.{Bool, cond, _&&_, _||_}
 use mathlib.Core.List.{List}
-use Prim.Native.Nat.{ℕ, _+_, _-_, _^_}
+use Prim.Native.Nat.{ℕ, _+_, _-_}
 use lib.Dec.{leb, ltb, eqb}
 use lib.IntN.{natAbs}
 use lib.ListN.{length}
+use Rattle.limits.specs.Limits.{isLineCount, isTideCount, isPlaceCount, isMultiplier, isRowTotal, isSheetDegree, isCoefficient}
 use Rattle.refusals.specs.Outcome.{firstOf}
 use Rattle.whole.specs.Sum.{weightTo, allTo}
-use Rattle.sheet.specs.Sheet.{lineCount, tideCount, placeCount, endAt, multiplier, admittance, degree, order, sCos, sSin, coefficient}
+use Rattle.sheet.specs.Sheet.{lineCount, tideCount, placeCount, sheetEnd, multiplier, admittance, degree, order, sCos, sSin, coefficient}
 
 -- ---- 7: "a section count outside its range, or length not exact"
 -- "Lines (1..128)", "Tides (1..32)", "Places (0..90)", "nothing after"
 unfoldable pub shaped : List ℕ → Bool
 shaped s =
-    leb 1 (lineCount s) && leb (lineCount s) 128
-    && leb 1 (tideCount s) && leb (tideCount s) 32
-    && leb (placeCount s) 90
-    && eqb (length s) (endAt s)
+    isLineCount (lineCount s)
+    && isTideCount (tideCount s)
+    && isPlaceCount (placeCount s)
+    && eqb (length s) (sheetEnd s)
 
 -- ---- 8: "a value or a row's total of absolute values out of range, an S not zero at order 0, or places not ascending"
 -- "six signed bytes, each -13..13"
 unfoldable pub lineValid : List ℕ → ℕ → Bool
-lineValid s f = allTo (λ i. leb (natAbs (multiplier s f i)) 13) 6
+lineValid s f = allTo (λ i. isMultiplier (multiplier s f i)) 6
 
 -- "absolute values in a row adding to at most 4,000,000"
 unfoldable pub rowValid : List ℕ → ℕ → Bool
-rowValid s k = leb (weightTo (admittance s k) (lineCount s)) 4000000
+rowValid s k = isRowTotal (weightTo (admittance s k) (lineCount s))
 
--- "each within ±2^24; the S ones zero at order 0"
+-- "then per tide four signed 32-bit counts, C cos, S cos, C sin, S sin, each within ±2^24": tide k of place j
 unfoldable pub countsValid : List ℕ → ℕ → ℕ → Bool
-countsValid s j k =
-    allTo (λ q. leb (natAbs (coefficient s j k q)) (2 ^ 24)) 4
-    && (ltb 0 (order s j) || eqb (natAbs (coefficient s j k sCos)) 0 && eqb (natAbs (coefficient s j k sSin)) 0)
+countsValid s j k = allTo (λ q. isCoefficient (coefficient s j k q)) 4
 
--- "degree byte 1..12, order byte at most the degree; then per tide four signed 32-bit counts"
+-- "the S ones zero"
+unfoldable pub sZero : List ℕ → ℕ → ℕ → Bool
+sZero s j k = eqb (natAbs (coefficient s j k sCos)) 0 && eqb (natAbs (coefficient s j k sSin)) 0
+
+-- "degree byte 1..12, order byte at most the degree; then per tide four signed 32-bit counts; the S ones zero at order 0"
 unfoldable pub placeValid : List ℕ → ℕ → Bool
-placeValid s j = leb 1 (degree s j) && leb (degree s j) 12 && leb (order s j) (degree s j) && allTo (countsValid s j) (tideCount s)
+placeValid s j =
+    isSheetDegree (degree s j)
+    && leb (order s j) (degree s j)
+    && allTo (countsValid s j) (tideCount s)
+    && (ltb 0 (order s j) || allTo (sZero s j) (tideCount s))
 
 -- "strictly ascending by degree then order"
 unfoldable pub precedes : List ℕ → ℕ → ℕ → Bool

@@ -6,7 +6,7 @@ use lib.ListN.{length}
 use Rattle.arguments.specs.declared.Multipliers.{Multipliers}
 use Rattle.sheet.specs.declared.Layout.{Layout}
 use Rattle.sheet.specs.Accepted.{ownRefusal}
-use Rattle.sheet.specs.Sheet.{lineCount, tideCount, placeCount, rowAt, placeAt, endAt, multiplier}
+use Rattle.sheet.specs.Sheet.{lineCount, tideCount, placeCount, rowStart, placeStart, sheetEnd, multiplier}
 
 -- line f's six multipliers, in the arguments' order
 unfoldable pub multipliers : List ℕ → ℕ → Multipliers
@@ -17,14 +17,14 @@ pub record Laid (s : List ℕ) (l : Layout) : Type 0 where
   pub lines : l .lines ≡ lineCount s
   pub tides : l .tides ≡ tideCount s
   pub places : l .places ≡ placeCount s
-  pub rows : l .rows ≡ rowAt s 0
-  pub first : l .first ≡ placeAt s 0
-  pub end : l .end ≡ endAt s
+  pub rows : l .rows ≡ rowStart s 0
+  pub first : l .first ≡ placeStart s 0
+  pub end : l .end ≡ sheetEnd s
 
 -- the same of a sheet that ends where its length says, so that every number in it can be read
 pub record Whole (s : List ℕ) (l : Layout) : Type 0 where
   pub laid : Laid s l
-  pub length : length s ≡ endAt s
+  pub length : length s ≡ sheetEnd s
 
 -- the same of a sheet that passed its own tests
 pub record Passed (s : List ℕ) (l : Layout) : Type 0 where

@@ -61,11 +61,11 @@ module _ (l : List ℤ) (d : Corrections) (k : ℕ) where
   s-others y z = corrected-elsewhere (corrected l 4 (d .s21)) 5 (d .s22) k z ∙ corrected-elsewhere l 4 (d .s21) k y
 
 -- the lists after the call on a field that is not refused
-module _ (n : ℕ) (c s : List ℤ) (b : Phases) (love : LoveModel) (passed : fieldRefusal n c s ≡ 0) where
-  pub list-c-after : stepTwo n c s b love .c ≡ addedC c (corrections b love)
+module _ (n : ℕ) (c s : List ℤ) (phases : Phases) (love : LoveModel) (passed : fieldRefusal n c s ≡ 0) where
+  pub list-c-after : stepTwo n c s phases love .c ≡ addedC c (corrections phases love)
   unfolding stepTwo
-  list-c-after = sym (gives-new (fieldRefusal n c s) c s (addedC c (corrections b love)) (addedS s (corrections b love)) passed .list-c)
+  list-c-after = sym (gives-new (fieldRefusal n c s) c s (addedC c (corrections phases love)) (addedS s (corrections phases love)) passed .list-c)
 
-  pub list-s-after : stepTwo n c s b love .s ≡ addedS s (corrections b love)
+  pub list-s-after : stepTwo n c s phases love .s ≡ addedS s (corrections phases love)
   unfolding stepTwo
-  list-s-after = sym (gives-new (fieldRefusal n c s) c s (addedC c (corrections b love)) (addedS s (corrections b love)) passed .list-s)
+  list-s-after = sym (gives-new (fieldRefusal n c s) c s (addedC c (corrections phases love)) (addedS s (corrections phases love)) passed .list-s)

@@ -1,3 +1,3 @@
 pub mod Sizes
-pub mod Bands
+pub mod Unused
 pub mod Entries

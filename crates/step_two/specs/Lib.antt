@@ -1,2 +1,2 @@
 pub mod StepTwo
-pub mod Room
+pub mod Inner

@@ -1,14 +1,18 @@
 -- The third demand for step two: "each second-step solid correction less than one count" from its exact sum, which is "the same sum with no
 -- rounding anywhere".
 use mathlib.Core.List.{List}
-use Prim.Native.Nat.{ℕ, _*_, _^_, _<_}
+use Prim.Native.Nat.{ℕ, _+_, _*_, _^_, _≤_, _<_}
 use lib.IntN.{ℤ, pos, natAbs, _-ℤ_, _*ℤ_}
 use lib.ListN.{getD}
 use Rattle.arguments.specs.declared.Phases.{Phases}
+use Rattle.bands.specs.declared.Line.{Line}
+use Rattle.bands.specs.Bands.{Coefficient, C20, C21, S21, C22, S22}
 use Rattle.choices.specs.declared.LoveModel.{LoveModel}
 use Rattle.field.specs.Field.{place}
 use Rattle.series.specs.Exact.{scale, exact-sin, exact-cos}
-use Rattle.step_two.specs.StepTwo.{sumC20, sumC21, sumS21, sumC22, sumS22, corrections, stepTwo}
+use Rattle.wave.specs.Wave.{sin, cos}
+use Rattle.whole.specs.Sum.{weightTo}
+use Rattle.step_two.specs.StepTwo.{sumOf, correctionOf, printedSum, corrections, stepTwo}
 
 -- an exact sum has so many parts to a count: its sines are in units of 2^-30, over `scale`
 unfoldable pub partsOfACount : ℕ
@@ -18,20 +22,38 @@ partsOfACount = 2 ^ 30 * scale
 unfoldable pub lessThanOneCount : ℤ → ℤ → Type 0
 lessThanOneCount correction exact = natAbs (correction *ℤ pos partsOfACount -ℤ exact) < partsOfACount
 
-pub record CloseToExact (b : Phases) (love : LoveModel) : Type 0 where
-  pub c20 : lessThanOneCount (corrections b love .c20) (sumC20 exact-sin exact-cos b love)
-  pub c21 : lessThanOneCount (corrections b love .c21) (sumC21 exact-sin exact-cos b love)
-  pub s21 : lessThanOneCount (corrections b love .s21) (sumS21 exact-sin exact-cos b love)
-  pub c22 : lessThanOneCount (corrections b love .c22) (sumC22 exact-sin exact-cos b)
-  pub s22 : lessThanOneCount (corrections b love .s22) (sumS22 exact-sin exact-cos b)
+-- the amplitudes of the first n of given lines, added up without their signs
+unfoldable pub amplitudes : (ℕ → Line) → ℕ → ℕ
+amplitudes lines n = weightTo (λ i. lines i .ip) n + weightTo (λ i. lines i .op) n
+
+-- a correction is at most half a count, and two units of 2^-30 for each count of the lines' amplitudes, from its exact sum
+unfoldable pub byAmplitudes : ℕ → ℤ → ℤ → Type 0
+byAmplitudes total correction exact = natAbs (correction *ℤ pos partsOfACount -ℤ exact) ≤ (2 ^ 29 + 2 * total) * scale
+
+-- so for any lines, any number of them and any phases
+pub record LinesCloseToExact (lines : ℕ → Line) (phase : ℕ → ℕ) (n : ℕ) : Type 0 where
+  pub each : (k : Coefficient) → byAmplitudes (amplitudes lines n)
+      (correctionOf lines (λ i. cos (phase i)) (λ i. sin (phase i)) n k)
+      (sumOf lines (λ i. exact-cos (phase i)) (λ i. exact-sin (phase i)) n k)
+
+-- the printed lines' exact sums
+abbrev pub exactSum : Phases → LoveModel → Coefficient → ℤ
+exactSum phases love = printedSum exact-sin exact-cos phases love
+
+pub record CloseToExact (phases : Phases) (love : LoveModel) : Type 0 where
+  pub c20 : lessThanOneCount (corrections phases love .c20) (exactSum phases love C20)
+  pub c21 : lessThanOneCount (corrections phases love .c21) (exactSum phases love C21)
+  pub s21 : lessThanOneCount (corrections phases love .s21) (exactSum phases love S21)
+  pub c22 : lessThanOneCount (corrections phases love .c22) (exactSum phases love C22)
+  pub s22 : lessThanOneCount (corrections phases love .s22) (exactSum phases love S22)
 
 -- the same of a field's entries: each after the call less the one before it
 abbrev pub moved : List ℤ → List ℤ → ℕ → ℤ
 moved before after k = getD after k (pos 0) -ℤ getD before k (pos 0)
 
-pub record EntriesCloseToExact (n : ℕ) (c s : List ℤ) (b : Phases) (love : LoveModel) : Type 0 where
-  pub c20 : lessThanOneCount (moved c (stepTwo n c s b love .c) (place 2 0)) (sumC20 exact-sin exact-cos b love)
-  pub c21 : lessThanOneCount (moved c (stepTwo n c s b love .c) (place 2 1)) (sumC21 exact-sin exact-cos b love)
-  pub s21 : lessThanOneCount (moved s (stepTwo n c s b love .s) (place 2 1)) (sumS21 exact-sin exact-cos b love)
-  pub c22 : lessThanOneCount (moved c (stepTwo n c s b love .c) (place 2 2)) (sumC22 exact-sin exact-cos b)
-  pub s22 : lessThanOneCount (moved s (stepTwo n c s b love .s) (place 2 2)) (sumS22 exact-sin exact-cos b)
+pub record EntriesCloseToExact (n : ℕ) (c s : List ℤ) (phases : Phases) (love : LoveModel) : Type 0 where
+  pub c20 : lessThanOneCount (moved c (stepTwo n c s phases love .c) (place 2 0)) (exactSum phases love C20)
+  pub c21 : lessThanOneCount (moved c (stepTwo n c s phases love .c) (place 2 1)) (exactSum phases love C21)
+  pub s21 : lessThanOneCount (moved s (stepTwo n c s phases love .s) (place 2 1)) (exactSum phases love S21)
+  pub c22 : lessThanOneCount (moved c (stepTwo n c s phases love .c) (place 2 2)) (exactSum phases love C22)
+  pub s22 : lessThanOneCount (moved s (stepTwo n c s phases love .s) (place 2 2)) (exactSum phases love S22)

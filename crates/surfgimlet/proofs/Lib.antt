@@ -1,2 +1,3 @@
 pub mod OneResult
 pub mod Refusals
+pub mod StepTwo

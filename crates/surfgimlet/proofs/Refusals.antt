@@ -14,7 +14,7 @@ use Rattle.refusals.specs.Outcome.{firstOf}
 use Rattle.refusals.proofs.Outcomes.{outcome-number, refused-untouched}
 use Rattle.ocean.specs.Ocean.{oceanRefusal, oceanTide}
 use Rattle.step_one.specs.StepOne.{refusalOf, stepOne}
-use Rattle.step_two.specs.StepTwo.{stepTwo}
+use Rattle.surfgimlet.specs.Calls.{stepTwo}
 
 module _ (n : ℕ) (c s : List ℤ) where
   -- 1, 2, then what refuses the Moon, the Sun or a correction

@@ -9,7 +9,7 @@ ghost use Rattle.lines.specs.Lines.{findLine, tells as tellsSought};
 ghost use Rattle.ocean.specs.Ocean.{oceanTide};
 ghost use Rattle.permanent.specs.Systems.{movedC20, tells as tellsMoved};
 ghost use Rattle.step_one.specs.StepOne.{stepOne};
-ghost use Rattle.step_two.specs.StepTwo.{stepTwo};
+ghost use Rattle.surfgimlet.specs.Calls.{stepTwo};
 use arguments::Multipliers;
 use arguments::Phases;
 use bodies::Body;
@@ -21,6 +21,11 @@ use doodson::Written;
 use lines::Sought;
 use permanent::Moved;
 use refusals::Answer;
+
+// The places (2,0) and (2,1); those that follow are the next ones in the list.
+const PLACE_20: usize = 3;
+
+const PLACE_21: usize = 4;
 
 // Solid tide, step one (001, eqs. 1 to 7; document 01, "Step one").
 // Given: a field, the Moon, the Sun, the Love model.
@@ -43,10 +48,18 @@ pub fn step_one(
 // Given: a field, six phases, the Love model.
 // Done: the corrections of C20, C21, S21, C22 and S22 are added.
 // Refused: 1, then 2.
-pub fn step_two(n: u32, c: &mut [i64], s: &mut [i64], b: Phases, love: LoveModel) -> Answer
-    ensures { λ r. ⌜ Gives (stepTwo n (now (c .entry)) (now (s .entry)) b love) (answerNumber r) (now (c .exit)) (now (s .exit)) ⌝ }
+pub fn step_two(n: u32, c: &mut [i64], s: &mut [i64], phases: Phases, love: LoveModel) -> Answer
+    ensures { λ r. ⌜ Gives (stepTwo n (now (c .entry)) (now (s .entry)) phases love) (answerNumber r) (now (c .exit)) (now (s .exit)) ⌝ }
 {
-    step_two::step_two(n, c, s, b, love)
+    let answer = field::tested(n, c, s);
+    if let Answer::Accepted = answer {
+        let d = step_two::corrections_of(phases, love);
+        let in_c = [d.c20, d.c21, d.c22];
+        let in_s = [d.s21, d.s22];
+        field::add_run(c, PLACE_20, &in_c);
+        field::add_run(s, PLACE_21, &in_s);
+    }
+    answer
 }
 
 // Ocean tide (002; document 01, "Model sheet and ocean tide").

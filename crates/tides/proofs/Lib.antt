@@ -1,3 +1,4 @@
-pub mod Kept
+pub mod Lists
+pub mod Lowering
 pub mod Sizes
 pub mod Factors

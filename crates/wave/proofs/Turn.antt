@@ -1,12 +1,26 @@
--- What holds on an eighth holds on the whole turn; and the sine by the half turn, as the code has it.
+-- What holds on an eighth holds on the whole turn; and the sine and the cosine by the eighth, from one S(a) and one C(a), as the code has them.
 use mathlib.Core.Path.{_≡_, refl, ap}
 use mathlib.Core.Bool.{Bool, true, false, cond, _||_}
-use Prim.Native.Nat.{ℕ, _-_, _/_, _%_, _^_, _≤_, _<_}
+use Prim.Native.Nat.{ℕ, _+_, _-_, _*_, _/_, _%_, _^_, _≤_, _<_}
 use native.Mathlib.Omega.{arith}
 use lib.Dec.{ltb, eqb}
 use lib.IntN.{ℤ, pos, negℤ}
-use borrow.Author.Tests.{lt-ltb, le-ltb}
-use Rattle.wave.specs.Wave.{folded, part, signed, eighths, eighth-sine, eighth-cosine, sin}
+use Rattle.wave.specs.Wave.{
+  folded,
+  part,
+  signed,
+  eighths,
+  further,
+  angle,
+  square,
+  steps,
+  sine-divisors,
+  eighth-sine,
+  cosine-divisors,
+  eighth-cosine,
+  sin,
+  cos,
+}
 
 -- a relation of two waves that holds of their parts on an eighth, and of the negatives where it holds of the numbers
 module _
@@ -34,19 +48,49 @@ module _
         let e = t / 2 ^ 29 in
         by-sign (ltb e 4) _ _ (by-part (eqb (e % 4) 0 || eqb (e % 4) 3) _ (by-fold (eqb (e % 2) 0) (t % 2 ^ 29) (omega arith)))
 
--- the sine is the part's value below the half turn, and its negative from there on
+-- the part of two whole numbers, be they taken as signed or not
 outside : (c : Bool) (m n : ℕ) → cond c (pos m) (pos n) ≡ pos (cond c m n)
 outside true m n = refl
 outside false m n = refl
 
-part-pos : (e a : ℕ) → part (λ k. pos (eighth-sine k)) (λ k. pos (eighth-cosine k)) e a ≡ pos (part eighth-sine eighth-cosine e a)
-unfolding part
-part-pos e a = outside (eqb (e % 4) 0 || eqb (e % 4) 3) (eighth-sine a) (eighth-cosine a)
+-- the sine in eighth e, from S(a) and C(a)
+abbrev pub sineIn : ℕ → ℕ → ℕ → ℤ
+sineIn e s c = signed e (pos (part (λ _. s) (λ _. c) e 0))
 
-pub sin-low : (t : ℕ) → t / 2 ^ 29 < 4 → sin t ≡ pos (part eighth-sine eighth-cosine (t / 2 ^ 29) (folded (t / 2 ^ 29) (t % 2 ^ 29)))
-unfolding sin eighths signed
-sin-low t h = rw (lt-ltb (t / 2 ^ 29) 4 h) (part-pos (t / 2 ^ 29) (folded (t / 2 ^ 29) (t % 2 ^ 29)))
+pub sin-in : (t : ℕ) → let a = folded (t / 2 ^ 29) (t % 2 ^ 29) in sin t ≡ sineIn (t / 2 ^ 29) (eighth-sine a) (eighth-cosine a)
+unfolding sin eighths part
+sin-in t =
+    let e = t / 2 ^ 29 in
+    let a = folded e (t % 2 ^ 29) in
+    ap (signed e) (outside (eqb (e % 4) 0 || eqb (e % 4) 3) (eighth-sine a) (eighth-cosine a))
 
-pub sin-high : (t : ℕ) → 4 ≤ t / 2 ^ 29 → sin t ≡ negℤ (pos (part eighth-sine eighth-cosine (t / 2 ^ 29) (folded (t / 2 ^ 29) (t % 2 ^ 29))))
-unfolding sin eighths signed
-sin-high t h = rw (le-ltb (t / 2 ^ 29) 4 h) (ap negℤ (part-pos (t / 2 ^ 29) (folded (t / 2 ^ 29) (t % 2 ^ 29))))
+-- S(a) and C(a), as they are worked out from one x and one y
+pub eighth-values : {a a′ x y s c : ℕ} → a′ ≡ a → x ≡ angle a′ → y ≡ square x
+    → s ≡ ((x * steps y (2 ^ 32) sine-divisors + 2 ^ 31) / 2 ^ 32 + 2) / 4
+    → c ≡ (steps y (2 ^ 32) cosine-divisors + 2) / 4
+    → (s ≡ eighth-sine a) × (c ≡ eighth-cosine a)
+unfolding eighth-sine eighth-cosine
+eighth-values ha hx hy hs hc = (cc, cc)
+
+pub ap-2 : {A B C : Type 0} (f : A → B → C) {x x′ : A} {y y′ : B} → x ≡ x′ → y ≡ y′ → f x y ≡ f x′ y′
+ap-2 f p q = cc
+
+-- a quarter turn further on is two eighths further on, and there a is the same
+further-eighth : (t : ℕ) → t < 2 ^ 32 → further t / 2 ^ 29 ≡ (t / 2 ^ 29 + 2) % 8
+unfolding further
+further-eighth t h = omega arith
+
+further-rest : (t : ℕ) → further t % 2 ^ 29 ≡ t % 2 ^ 29
+unfolding further
+further-rest t = omega arith
+
+further-folded : (e b : ℕ) → folded ((e + 2) % 8) b ≡ folded e b
+unfolding folded
+further-folded e b =
+    let h : (e + 2) % 8 % 2 ≡ e % 2 = omega arith in
+    ap (λ (k : ℕ). cond (eqb k 0) b (2 ^ 29 - b)) h
+
+pub cos-in : (t : ℕ) → t < 2 ^ 32
+    → let a = folded (t / 2 ^ 29) (t % 2 ^ 29) in cos t ≡ sineIn ((t / 2 ^ 29 + 2) % 8) (eighth-sine a) (eighth-cosine a)
+unfolding cos
+cos-in t h = rw (further-eighth t h, further-rest t, further-folded (t / 2 ^ 29) (t % 2 ^ 29)) at (sin-in (further t))

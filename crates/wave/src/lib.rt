@@ -1,7 +1,14 @@
 // The sine and the cosine of a phase, a turn being 2^32, in units of 2^-30 (01, "Phase, sine and cosine").
 ghost use mathlib.Core.Path.{_≡_};
-ghost use Prim.Native.Nat.{_*_, _^_, _≤_};
-ghost use Rattle.wave.specs.Wave.{folded, part, angle, square, step, eighth-sine, eighth-cosine, sin, cos};
+ghost use Prim.Native.Nat.{_+_, _*_, _/_, _^_, _≤_};
+ghost use lib.IntN.{pos};
+ghost use Rattle.wave.specs.Wave.{folded, part, signed, angle, square, step, steps, sine-divisors, cosine-divisors, sin, cos};
+
+// The sine and the cosine of one phase.
+pub struct Wave {
+    pub sine: i64,
+    pub cosine: i64,
+}
 
 // x, the angle in units of 2^-32.
 fn angle_of(a: u32) -> u64
@@ -27,13 +34,11 @@ fn step_of(y: u64, h: u64, d: u64) -> u64
     4294967296 - (y * h + 2147483648 * d) / (4294967296 * d)
 }
 
-// S(a)
-fn eighth_sine_of(a: u32) -> u32
-    requires { ⌜ a ≤ 2 ^ 29 ⌝ }
-    ensures { λ r. ⌜ (r ≡ eighth-sine a) × (r ≤ 2 ^ 30) ⌝ }
+// S(a), from the angle's x and y.
+fn eighth_sine_of(x: u64, y: u64) -> u32
+    requires { ⌜ (x ≤ 7 * 2 ^ 29) × (y ≤ 7 * 2 ^ 29) ⌝ }
+    ensures { λ r. ⌜ (r ≡ ((x * steps y (2 ^ 32) sine-divisors + 2 ^ 31) / 2 ^ 32 + 2) / 4) × (r ≤ 2 ^ 30) ⌝ }
 {
-    let x = angle_of(a);
-    let y = square_of(x);
     let h = step_of(y, 4294967296, 110);
     let h = step_of(y, h, 72);
     let h = step_of(y, h, 42);
@@ -43,12 +48,11 @@ fn eighth_sine_of(a: u32) -> u32
     ((g + 2) / 4) as u32
 }
 
-// C(a)
-fn eighth_cosine_of(a: u32) -> u32
-    requires { ⌜ a ≤ 2 ^ 29 ⌝ }
-    ensures { λ r. ⌜ (r ≡ eighth-cosine a) × (r ≤ 2 ^ 30) ⌝ }
+// C(a), from the angle's y.
+fn eighth_cosine_of(y: u64) -> u32
+    requires { ⌜ y ≤ 7 * 2 ^ 29 ⌝ }
+    ensures { λ r. ⌜ (r ≡ (steps y (2 ^ 32) cosine-divisors + 2) / 4) × (r ≤ 2 ^ 30) ⌝ }
 {
-    let y = square_of(angle_of(a));
     let h = step_of(y, 4294967296, 132);
     let h = step_of(y, h, 90);
     let h = step_of(y, h, 56);
@@ -67,15 +71,35 @@ fn folded_of(e: u32, b: u32) -> u32
 }
 
 // S(a) or C(a), by the eighth.
-fn part_of(e: u32, a: u32) -> u32
-    requires { ⌜ a ≤ 2 ^ 29 ⌝ }
-    ensures { λ r. ⌜ (r ≡ part eighth-sine eighth-cosine e a) × (r ≤ 2 ^ 30) ⌝ }
+fn part_of(e: u32, sine: u32, cosine: u32) -> u32
+    requires { ⌜ (sine ≤ 2 ^ 30) × (cosine ≤ 2 ^ 30) ⌝ }
+    ensures { λ r. ⌜ (r ≡ part (λ _. sine) (λ _. cosine) e 0) × (r ≤ 2 ^ 30) ⌝ }
 {
     let k = e % 4;
-    if (k == 0) | (k == 3) {
-        eighth_sine_of(a)
-    } else {
-        eighth_cosine_of(a)
+    if (k == 0) | (k == 3) { sine } else { cosine }
+}
+
+// The sine in an eighth, from S(a) and C(a) there.
+fn sine_in(e: u32, sine: u32, cosine: u32) -> i64
+    requires { ⌜ (sine ≤ 2 ^ 30) × (cosine ≤ 2 ^ 30) ⌝ }
+    ensures { λ r. ⌜ r ≡ signed e (pos (part (λ _. sine) (λ _. cosine) e 0)) ⌝ }
+{
+    let size = part_of(e, sine, cosine) as i64;
+    if e < 4 { size } else { -size }
+}
+
+// The sine and the cosine of a phase: the cosine is the sine a quarter turn, two eighths, further on, and a is the same there.
+pub fn wave_of(phase: u32) -> Wave
+    ensures { λ r. ⌜ (r .sine ≡ sin phase) × (r .cosine ≡ cos phase) ⌝ }
+{
+    let e = phase / 536870912;
+    let x = angle_of(folded_of(e, phase % 536870912));
+    let y = square_of(x);
+    let sine = eighth_sine_of(x, y);
+    let cosine = eighth_cosine_of(y);
+    Wave {
+        sine: sine_in(e, sine, cosine),
+        cosine: sine_in((e + 2) % 8, sine, cosine),
     }
 }
 
@@ -83,15 +107,14 @@ fn part_of(e: u32, a: u32) -> u32
 pub fn sine_of(phase: u32) -> i64
     ensures { λ r. ⌜ r ≡ sin phase ⌝ }
 {
-    let e = phase / 536870912;
-    let a = folded_of(e, phase % 536870912);
-    let size = part_of(e, a) as i64;
-    if e < 4 { size } else { -size }
+    let wave = wave_of(phase);
+    wave.sine
 }
 
-// The cosine is the sine a quarter turn further on.
+// The cosine of a phase.
 pub fn cosine_of(phase: u32) -> i64
     ensures { λ r. ⌜ r ≡ cos phase ⌝ }
 {
-    sine_of(std::num::wrapping_add_u32(phase, 1073741824))
+    let wave = wave_of(phase);
+    wave.cosine
 }

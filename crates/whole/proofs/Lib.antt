@@ -6,6 +6,7 @@ pub mod Signs
 pub mod Floor
 pub mod Rounding
 pub mod Sums
+pub mod Bits
 pub mod Counted
 pub mod Running
 pub mod Within

@@ -1,46 +1,36 @@
--- One flag takes every place's degree in turn.
-use Prim.Native.Nat.{ℕ, _-_, _≤_}
+-- Places ascend, so that the last has the highest degree.
 use mathlib.Core.Path.{_≡_, ap, _∙_}
+use Prim.Native.Nat.{ℕ, _-_}
 use native.Mathlib.Omega.{arith}
 use borrow.Author.Needs.{needs}
-use Rattle.whole.specs.Sum.{allTo}
+use lib.Dec.{leb}
+use Rattle.whole.proofs.Counted.{all-none}
 use Rattle.sheet.specs.Sheet.{placeCount, degree}
 use Rattle.sheet.specs.Accepted.{reached}
-use Rattle.whole.proofs.Counted.{all-none, all-more}
-use lib.Dec.{leb}
+use Rattle.sheet.proofs.Acceptance.{accepted, whole-of, last-reached}
 use Rattle.accept.proofs.is_reached.Statement.{statement}
 use Rattle.accept.proofs.is_reached.Tie as tie
 
-abbrev Inv-loop : tie.InvT-loop
-Inv-loop sheet l n highest places good₀ j₀ good j = (j ≤ places) × (good ≡ allTo (λ i. leb (degree sheet i) n) j)
+sub-degree-at : tie.Need-sub-degree-at
+sub-degree-at c = search needs
 
-abbrev μ-loop : tie.MeasureT-loop
-μ-loop sheet l n highest places good₀ j₀ good j = places - j
+degree-at-requires : tie.Need-degree-at-requires
+degree-at-requires c κs = let p = c .before .before .pre in (whole-of p, omega (arith, p .laid .places))
 
-loop-holds : tie.Need-loop-holds Inv-loop μ-loop
-loop-holds c = (omega arith, all-none _)
-
-degree-at-requires : tie.Need-degree-at-requires Inv-loop μ-loop
-degree-at-requires c κs = search needs
-
-add-j : tie.Need-add-j Inv-loop μ-loop
-add-j c = search needs
-
-loop-less : tie.Need-loop-less Inv-loop μ-loop
-loop-less c = search needs
-
-loop-again : tie.Need-loop-again Inv-loop μ-loop
-loop-again c =
-    let l = c .before .before .loop in
-    let s = c .before .before .before .before in
-    (omega arith, all-more (λ i. leb (degree (s .args .sheet .now) i) (s .args .n)) (l .j) (l .inv .1) (ap (λ (d : ℕ). leb d (s .args .n)) (c .degree-at .ensures)))
-
-returns : tie.Need-returns Inv-loop μ-loop
-unfolding reached
+returns : tie.Need-returns
 returns c =
-    let s = c .before .before .before in
-    let e : c .before .loop .j ≡ placeCount (s .args .sheet .now) = omega arith in
-    c .before .loop .inv .1 ∙ ap (allTo (λ i. leb (degree (s .args .sheet .now) i) (s .args .n))) e
+    let start = c .before .before .before in
+    let s = start .args .sheet .now in
+    let n = start .args .n in
+    let p = start .pre .laid .places in
+    ap (λ (d : ℕ). leb d n) (c .degree-at .ensures) ∙ ap (λ (k : ℕ). leb (degree s (k - 1)) n) p ∙ last-reached (accepted s (start .pre .own)) n (omega (arith, p))
+
+returns-2 : tie.Need-returns-2
+unfolding reached
+returns-2 c =
+    let start = c .before .before in
+    let e : placeCount (start .args .sheet .now) ≡ 0 = omega (arith, start .pre .laid .places) in
+    rw e (all-none _)
 
 pub is-reached-spec : {M : Type 1} → statement M
-is-reached-spec = tie.close (tie.spec Inv-loop μ-loop loop-holds degree-at-requires add-j loop-less loop-again returns)
+is-reached-spec = tie.close (tie.spec sub-degree-at degree-at-requires returns returns-2)

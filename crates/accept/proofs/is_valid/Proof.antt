@@ -19,8 +19,7 @@ are-ascending-requires c κs = search needs
 returns : tie.Need-returns
 unfolding valid
 returns c =
-    let lines = c .before .before .before in
-    rw (lines .are-lines .ensures, lines .before .before .pre .0 .laid .lines, c .before .before .are-rows .ensures, c .before .are-places .ensures, c .are-ascending .ensures)
+    rw (c .before .before .before .are-lines .ensures, c .before .before .are-rows .ensures, c .before .are-places .ensures, c .are-ascending .ensures)
 
 pub is-valid-spec : {M : Type 1} → statement M
 is-valid-spec = tie.close (tie.spec are-lines-requires are-rows-requires are-places-requires are-ascending-requires returns)

@@ -6,7 +6,6 @@ use Rattle.refusals.specs.Numbers.{answerNumber}
 use Rattle.refusals.proofs.Numbers.{refusal-not-zero}
 use Rattle.sheet.specs.Accepted.{reached, ownRefusal, sheetRefusal}
 use Rattle.refusals.proofs.Outcomes.{first-passed, first-kept}
-use Rattle.sheet.proofs.Acceptance.{accepted}
 use Rattle.accept.proofs.tested.Statement.{statement}
 use Rattle.accept.proofs.tested.Tie as tie
 
@@ -28,20 +27,17 @@ tested-alone-requires c κs = search needs
 enum-told : tie.Need-enum-told
 enum-told c = search needs
 
-layout-of-requires : tie.Need-layout-of-requires
-layout-of-requires c κs = search needs
-
 is-reached-requires : tie.Need-is-reached-requires
-is-reached-requires c κs = record { laid = c .layout-of .ensures; length = accepted _ (passed (c .before)) .shape .length }
+is-reached-requires c κs = record { laid = start c .pre; own = passed c }
 
 enum-known-why : tie.Need-enum-known-why
 enum-known-why c = search needs
 
 returns : tie.Need-returns
-returns c = rw (past (c .before .before .before), sym (c .before .is-reached .ensures) ∙ c .if1 .taken)
+returns c = rw (past (c .before .before), sym (c .before .is-reached .ensures) ∙ c .if1 .taken)
 
 returns-2 : tie.Need-returns-2
-returns-2 c = rw (past (c .before .before .before), sym (c .before .is-reached .ensures) ∙ c .if1 .left)
+returns-2 c = rw (past (c .before .before), sym (c .before .is-reached .ensures) ∙ c .if1 .left)
 
 returns-3 : tie.Need-returns-3
 unfolding sheetRefusal
@@ -56,7 +52,6 @@ tested-spec =
     (tie.spec
     tested-alone-requires
     enum-told
-    layout-of-requires
     is-reached-requires
     enum-known-why
     returns

@@ -7,20 +7,17 @@ use Rattle.sheet.proofs.Acceptance.{Shape, shape}
 use Rattle.accept.proofs.tested_alone.Statement.{statement}
 use Rattle.accept.proofs.tested_alone.Tie as tie
 
-good : (c : tie.Then1) → shaped (c .before .before .before .before .args .sheet .now) ≡ true
+good : (c : tie.Then1) → shaped (c .before .before .before .args .sheet .now) ≡ true
 good c = sym (c .before .is-shaped .ensures) ∙ c .if1 .taken
 
-formed : (c : tie.Then1) → Shape (c .before .before .before .before .args .sheet .now)
+formed : (c : tie.Then1) → Shape (c .before .before .before .args .sheet .now)
 formed c = shape _ (good c)
-
-layout-of-requires : tie.Need-layout-of-requires
-layout-of-requires c κs = search needs
 
 is-shaped-requires : tie.Need-is-shaped-requires
 is-shaped-requires c κs = search needs
 
 is-valid-requires : tie.Need-is-valid-requires
-is-valid-requires c κs = (record { laid = c .before .before .layout-of .ensures; length = formed c .length }, formed c .lines-most)
+is-valid-requires c κs = (record { laid = c .before .before .before .pre; length = formed c .length }, formed c .lines-most)
 
 returns : tie.Need-returns
 unfolding ownRefusal
@@ -35,4 +32,4 @@ unfolding ownRefusal
 returns-3 c = rw (sym (c .before .is-shaped .ensures) ∙ c .if1 .left)
 
 pub tested-alone-spec : {M : Type 1} → statement M
-tested-alone-spec = tie.close (tie.spec layout-of-requires is-shaped-requires is-valid-requires returns returns-2 returns-3)
+tested-alone-spec = tie.close (tie.spec is-shaped-requires is-valid-requires returns returns-2 returns-3)

@@ -8,11 +8,11 @@ use Rattle.field.proofs.tested.Tie as tie
 is-shaped-requires : tie.Need-is-shaped-requires
 is-shaped-requires c κs = search needs
 
-every-in-range-requires : tie.Need-every-in-range-requires
-every-in-range-requires c κs = search needs
+all-in-range-requires : tie.Need-all-in-range-requires
+all-in-range-requires c κs = search needs
 
-every-in-range-requires-2 : tie.Need-every-in-range-requires-2
-every-in-range-requires-2 c κs = search needs
+all-in-range-requires-2 : tie.Need-all-in-range-requires-2
+all-in-range-requires-2 c κs = search needs
 
 returns : tie.Need-returns
 unfolding fieldRefusal
@@ -20,7 +20,7 @@ returns c =
     let both = c .before in
     let first = both .before in
     let shape = first .before in
-    rw (sym (shape .before .is-shaped .ensures) ∙ shape .if1 .taken, sym (first .every-in-range .ensures), sym (both .every-in-range2 .ensures), c .if2 .taken) refl
+    rw (sym (shape .before .is-shaped .ensures) ∙ shape .if1 .taken, sym (first .all-in-range .ensures), sym (both .all-in-range2 .ensures), c .if2 .taken) refl
 
 returns-2 : tie.Need-returns-2
 unfolding fieldRefusal
@@ -28,7 +28,7 @@ returns-2 c =
     let both = c .before in
     let first = both .before in
     let shape = first .before in
-    rw (sym (shape .before .is-shaped .ensures) ∙ shape .if1 .taken, sym (first .every-in-range .ensures), sym (both .every-in-range2 .ensures), c .if2 .left) refl
+    rw (sym (shape .before .is-shaped .ensures) ∙ shape .if1 .taken, sym (first .all-in-range .ensures), sym (both .all-in-range2 .ensures), c .if2 .left) refl
 
 returns-3 : tie.Need-returns-3
 unfolding fieldRefusal
@@ -36,4 +36,4 @@ returns-3 c = rw (sym (c .before .is-shaped .ensures) ∙ c .if1 .left) refl
 
 pub tested-spec : {M : Type 1} → statement M
 tested-spec =
-    tie.close (tie.spec is-shaped-requires every-in-range-requires every-in-range-requires-2 returns returns-2 returns-3)
+    tie.close (tie.spec is-shaped-requires all-in-range-requires all-in-range-requires-2 returns returns-2 returns-3)

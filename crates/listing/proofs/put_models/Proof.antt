@@ -6,7 +6,7 @@ use native.Mathlib.Omega.{arith}
 use lib.ListN.{length-append}
 use Rattle.choices.specs.declared.LoveModel.the-variants.{Elastic, Anelastic}
 use Rattle.step_two.specs.StepTwo.{corrections}
-use Rattle.step_two.proofs.Bands.{corrections-small}
+use Rattle.step_two.proofs.Sizes.{corrections-small}
 use Rattle.text.specs.Text.{ascii}
 use Rattle.text.specs.Inner.{Put}
 use Rattle.listing.specs.Listing.{modelText, modelsText}

@@ -8,7 +8,8 @@ use Rattle.refusals.proofs.Numbers.{refusal-not-zero}
 use Rattle.refusals.proofs.Outcomes.{gives-new, gives-kept}
 use Rattle.sheet.specs.Sheet.{placeCount}
 use Rattle.ocean.specs.Ocean.{dC, dS, oceanRefusal, oceanTide}
-use Rattle.places.specs.Places.{added}
+use Rattle.field.specs.Added.{added}
+use Rattle.places.specs.Places.{indexOf}
 use Rattle.ocean.proofs.Passing.{passing}
 use Rattle.ocean.proofs.ocean_tide.Statement.{statement}
 use Rattle.ocean.proofs.ocean_tide.Tie as tie
@@ -16,10 +17,10 @@ use Rattle.ocean.proofs.ocean_tide.Tie as tie
 -- the lists that an accepted call leaves
 module _ (x : tie.Start) where
   abbrev new-c : List ℤ
-  new-c = added (x .args .sheet .now) (dC (x .args .sheet .now) (x .args .b) (x .args .frame)) (x .args .c .now) (placeCount (x .args .sheet .now))
+  new-c = added (indexOf (x .args .sheet .now)) (dC (x .args .sheet .now) (x .args .phases) (x .args .frame)) (placeCount (x .args .sheet .now)) (x .args .c .now)
 
   abbrev new-s : List ℤ
-  new-s = added (x .args .sheet .now) (dS (x .args .sheet .now) (x .args .b) (x .args .frame)) (x .args .s .now) (placeCount (x .args .sheet .now))
+  new-s = added (indexOf (x .args .sheet .now)) (dS (x .args .sheet .now) (x .args .phases) (x .args .frame)) (placeCount (x .args .sheet .now)) (x .args .s .now)
 
 module _ (c : tie.After-enum-told) where
   abbrev start : tie.Start
@@ -35,7 +36,10 @@ enum-told : tie.Need-enum-told
 enum-told c = search needs
 
 add-tide-requires : tie.Need-add-tide-requires
-add-tide-requires c κs = passing _ _ _ _ (passed (c .before .before))
+add-tide-requires c κs =
+    let l = c .before .before in
+    let p = passing _ _ _ _ (passed (l .before)) in
+    (record { laid = l .layout-of .ensures; own = p .0 }, p .1)
 
 enum-told-2 : tie.Need-enum-told-2
 enum-told-2 c = search needs
@@ -49,7 +53,7 @@ same-length-2 c = search needs
 returns : tie.Need-returns
 unfolding oceanTide
 returns c =
-    let a = c .before .before .before .before .before in
+    let a = c .before .before .before .before .before .before in
     let x = start a in
     let g = gives-new (oceanRefusal (x .args .n) (x .args .c .now) (x .args .s .now) (x .args .sheet .now)) (x .args .c .now) (x .args .s .now) (new-c x) (new-s x) (passed a) in
     let t = c .before .before .add-tide .ensures in
@@ -76,6 +80,7 @@ ocean-tide-spec =
     (tie.spec
     tested-requires
     enum-told
+    (λ c κs. search needs)
     add-tide-requires
     enum-told-2
     same-length

@@ -1,37 +1,31 @@
--- Place j begins at the first place and j places of all tides, and its degree is its first byte.
+-- The degree is the first byte of a place.
 use mathlib.Core.Path.{ap, _∙_}
-use Prim.Native.Nat.{ℕ, _+_, _*_, _≤_}
+use Prim.Native.Nat.{ℕ}
 use native.Mathlib.Omega.{arith}
-use lib.ListN.{length}
 use borrow.Author.Needs.{needs}
-use Rattle.sheet.specs.Sheet.{byteAt, degree}
-use Rattle.sheet.proofs.Offsets.{place-is, place-in}
+use Rattle.words.specs.Words.{byteAt}
+use Rattle.sheet.specs.Sheet.{degree}
+use Rattle.sheet.proofs.Offsets.{place-in}
 use Rattle.sheet.proofs.degree_at.Statement.{statement}
 use Rattle.sheet.proofs.degree_at.Tie as tie
 
-inside : (s : tie.Start) → s .args .l .first + (2 + 16 * s .args .l .tides) * s .args .j + (2 + 16 * s .args .l .tides) ≤ length (s .args .sheet .now)
-inside s = place-in (s .pre .0) (s .args .j) (s .pre .1)
+place-start-requires : tie.Need-place-start-requires
+place-start-requires c κs = search needs
 
-mul-byte-at : tie.Need-mul-byte-at
-mul-byte-at c = omega (arith, inside (c .before .before))
+shared-slice-read-wide : tie.Need-shared-slice-read-wide
+shared-slice-read-wide c = let s = c .before .before .before in omega (arith, place-in (s .pre .0) (s .args .j) (s .pre .1))
 
-add-byte-at : tie.Need-add-byte-at
-add-byte-at c = omega (arith, inside (c .before .before))
+wide-requires : tie.Need-wide-requires
+wide-requires c κs = search needs
 
-mul-byte-at-2 : tie.Need-mul-byte-at-2
-mul-byte-at-2 c = omega (arith, inside (c .before .before))
-
-add-byte-at-2 : tie.Need-add-byte-at-2
-add-byte-at-2 c = omega (arith, inside (c .before .before .before))
-
-byte-at-requires : tie.Need-byte-at-requires
-byte-at-requires c κs = search needs
+cast-result : tie.Need-cast-result
+cast-result c = search needs
 
 returns : tie.Need-returns
 unfolding degree
 returns c =
-    let s = c .before .before .before .before in
-    c .byte-at .ensures .0 ∙ ap (λ (at : ℕ). byteAt (s .args .sheet .now) (at)) (place-is (s .pre .0 .laid) (s .args .j))
+    let p = c .before .before in
+    c .wide .ensures .0 ∙ ap (λ (at : ℕ). byteAt (p .before .before .args .sheet .now) at) (p .place-start .ensures)
 
 pub degree-at-spec : {M : Type 1} → statement M
-degree-at-spec = tie.close (tie.spec mul-byte-at add-byte-at mul-byte-at-2 add-byte-at-2 byte-at-requires returns)
+degree-at-spec = tie.close (tie.spec place-start-requires shared-slice-read-wide wide-requires cast-result returns)

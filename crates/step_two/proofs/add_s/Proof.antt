@@ -9,7 +9,7 @@ use Rattle.field.specs.Field.{place}
 use Rattle.field.specs.Added.{corrected}
 use Rattle.field.proofs.Entries.{Open, open-entry, open-after}
 use Rattle.step_two.specs.StepTwo.{addedS}
-use Rattle.step_two.proofs.Bands.{same-count}
+use Rattle.step_two.proofs.Sizes.{same-count}
 use Rattle.step_two.proofs.add_s.Statement.{statement}
 use Rattle.step_two.proofs.add_s.Tie as tie
 

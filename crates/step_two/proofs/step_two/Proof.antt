@@ -3,12 +3,12 @@ use borrow.Author.Needs.{needs}
 use mathlib.Core.Path.{_≡_, sym, ap, _∙_}
 use Rattle.refusals.specs.Numbers.{answerNumber}
 use Rattle.refusals.proofs.Numbers.{refusal-not-zero}
+use Rattle.refusals.proofs.Outcomes.{gives-new, gives-kept}
 use Rattle.field.specs.Field.{fieldRefusal}
 use Rattle.field.proofs.Accepted.{Accepted, accepted-field, degree-two}
-use Rattle.refusals.proofs.Outcomes.{gives-new, gives-kept}
-use Rattle.step_two.specs.Room.{Small}
+use Rattle.step_two.specs.Inner.{Small}
 use Rattle.step_two.specs.StepTwo.{corrections, addedC, addedS, stepTwo}
-use Rattle.step_two.proofs.Bands.{corrections-small}
+use Rattle.step_two.proofs.Sizes.{corrections-small}
 use Rattle.step_two.proofs.step_two.Statement.{statement}
 use Rattle.step_two.proofs.step_two.Tie as tie
 
@@ -33,7 +33,7 @@ module _ (c : tie.After-corrections-of) where
   good = accepted-field _ _ _ passed
 
   small : Small (c .corrections-of .result)
-  small = rw (c .corrections-of .ensures) (corrections-small (start .args .b) (start .args .love))
+  small = rw (c .corrections-of .ensures) (corrections-small (start .args .phases) (start .args .love))
 
 add-c-requires : tie.Need-add-c-requires
 add-c-requires c κs =
@@ -60,7 +60,7 @@ returns c =
     let a = c .before .before .before .before .before .before in
     let d = a .corrections-of .ensures in
     let x = start a .args in
-    let g = gives-new (fieldRefusal (x .n) (x .c .now) (x .s .now)) (x .c .now) (x .s .now) (addedC (x .c .now) (corrections (x .b) (x .love))) (addedS (x .s .now) (corrections (x .b) (x .love))) (passed a) in
+    let g = gives-new (fieldRefusal (x .n) (x .c .now) (x .s .now)) (x .c .now) (x .s .now) (addedC (x .c .now) (corrections (x .phases) (x .love))) (addedS (x .s .now) (corrections (x .phases) (x .love))) (passed a) in
     record {
       answer = a .before .before .before .tested .ensures ∙ g .answer;
       list-c = c .before .before .before .before .add-c .ensures ∙ ap (addedC (x .c .now)) d ∙ g .list-c;
@@ -78,7 +78,7 @@ unfolding stepTwo
 returns-2 c =
     let t = c .before .before .tested in
     let x = c .before .before .before .before .before .args in
-    let g = gives-kept (fieldRefusal (x .n) (x .c .now) (x .s .now)) (x .c .now) (x .s .now) (addedC (x .c .now) (corrections (x .b) (x .love))) (addedS (x .s .now) (corrections (x .b) (x .love))) (λ e. refusal-not-zero (c .enum-told2 .given .0 .0) (sym (ap answerNumber (c .enum-told2 .given .1)) ∙ t .ensures ∙ e)) in
+    let g = gives-kept (fieldRefusal (x .n) (x .c .now) (x .s .now)) (x .c .now) (x .s .now) (addedC (x .c .now) (corrections (x .phases) (x .love))) (addedS (x .s .now) (corrections (x .phases) (x .love))) (λ e. refusal-not-zero (c .enum-told2 .given .0 .0) (sym (ap answerNumber (c .enum-told2 .given .1)) ∙ t .ensures ∙ e)) in
     record { answer = t .ensures ∙ g .answer; list-c = g .list-c; list-s = g .list-s }
 
 pub step-two-spec : {M : Type 1} → statement M

@@ -1,0 +1,315 @@
+/* The unit's three calls over a field, in C written for speed: the same refusals in the same order and the same counts, no intrinsics.
+ * Each compiler's copy has names of its own, by -D'CALL(x)=..'. Compile with -ffp-contract=off. */
+#include <math.h>
+#include <string.h>
+#include "bench.h"
+#include "lines.h"
+
+#define INLINE static inline __attribute__((always_inline))
+#define ONE UINT64_C(1)
+
+/* ---- the field */
+
+#define LIMIT (INT64_C(1) << 60)
+
+static int each_in_range(const int64_t *list, size_t length)
+{
+    for (size_t i = 0; i < length; i++)
+        if (list[i] < -LIMIT || list[i] > LIMIT) return 0;
+    return 1;
+}
+
+/* x + 2^60 is below 2^61 for every x in range but 2^60: all the bits together tell, without a branch; where they do not, each is looked at */
+INLINE int in_range(const int64_t *list, size_t length)
+{
+    uint64_t bits = 0;
+    for (size_t i = 0; i < length; i++) bits |= (uint64_t)list[i] + (ONE << 60);
+    return bits < ONE << 61 || each_in_range(list, length);
+}
+
+INLINE uint32_t field_refusal(uint32_t n, const int64_t *c, size_t c_length, const int64_t *s, size_t s_length)
+{
+    size_t size = ((size_t)n + 1) * ((size_t)n + 2) / 2;
+    if (n < 4 || n > 60 || c_length != size || s_length != size) return 1;
+    return in_range(c, c_length) && in_range(s, s_length) ? 0 : 2;
+}
+
+/* ---- sine and cosine */
+
+/* v / d of a 32-bit v as a product and a shift: factor is 2^shift / d rounded up, near enough for every v that comes */
+#define OVER(v, factor, shift) ((v) * UINT64_C(factor) >> (shift))
+/* one step of the nested series, which keeps h - 1, since that has 32 bits: y*h is y*g + y */
+#define STEP(g, d, factor, shift) (UINT64_C(0xffffffff) - OVER((y * (g) + y + ((uint64_t)(d) << 31)) >> 32, factor, shift))
+
+/* The sines and cosines of so many phases, 2^30 added to each, so that all are unsigned: two or four at a time, where the compiler sees how. */
+static void waves(const uint32_t *restrict phases, size_t count, uint32_t *restrict sines, uint32_t *restrict cosines)
+{
+    for (size_t i = 0; i < count; i++) {
+        uint32_t phase = phases[i], eighth = phase >> 29, rest = phase & 0x1fffffff;
+        uint32_t a = eighth & 1 ? (UINT32_C(1) << 29) - rest : rest;
+        uint64_t x = 6 * a + (uint32_t)(((uint64_t)a * 608135817 + (ONE << 30)) >> 31); /* 13493037705 = 6 * 2^31 + 608135817 */
+        uint64_t y = (x * x + (ONE << 31)) >> 32;
+        uint64_t g = UINT64_C(0xffffffff) - OVER(y + 55, 156180629, 34);
+        uint64_t h = UINT64_C(0xffffffff) - OVER(y + 66, 1041204193, 37);
+        uint32_t s, c, at_sine, at_cosine;
+        g = STEP(g, 72, 954437177, 36);
+        g = STEP(g, 42, 818089009, 35);
+        g = STEP(g, 20, 1717986919, 35);
+        g = STEP(g, 6, 2863311531, 34);
+        s = (uint32_t)((((x * g + x + (ONE << 31)) >> 32) + 2) >> 2);
+        h = STEP(h, 90, 3054198967, 38);
+        h = STEP(h, 56, 2454267027, 37);
+        h = STEP(h, 30, 2290649225, 36);
+        h = STEP(h, 12, 2863311531, 35);
+        h = UINT64_C(0xffffffff) - ((y * h + y + (ONE << 32)) >> 33);
+        c = (uint32_t)((h + 3) >> 2);
+        at_sine = eighth + 1 & 2 ? c : s;
+        at_cosine = eighth + 1 & 2 ? s : c;
+        sines[i] = (UINT32_C(1) << 30) + (eighth & 4 ? -at_sine : at_sine);
+        cosines[i] = (UINT32_C(1) << 30) + (eighth + 2 & 4 ? -at_cosine : at_cosine);
+    }
+}
+
+INLINE int64_t wave(uint32_t raised) { return (int64_t)raised - (INT64_C(1) << 30); }
+
+INLINE int64_t nearest_30(int64_t sum) { return (sum + (INT64_C(1) << 29)) >> 30; }
+
+/* ---- step two */
+
+uint32_t CALL(step_two)(uint32_t n, int64_t *c, size_t c_length, int64_t *s, size_t s_length, surfgimlet_phases b, uint32_t love)
+{
+    uint32_t phases[LINES], sines[LINES], cosines[LINES], fives, refusal;
+    int64_t c20 = 0, c21 = 0, s21 = 0, c22 = 0, s22 = 0;
+    if (love > 1) return 100;
+    refusal = field_refusal(n, c, c_length, s, s_length);
+    if (refusal) return refusal;
+    fives = 5 * (b.s + b.h + b.p + b.np + b.ps);
+    for (int i = 0; i < LINES; i++) {
+        uint32_t d = printed[i].digits;
+        phases[i] = (d >> 20) * b.tau + (d >> 16 & 15) * b.s + (d >> 12 & 15) * b.h + (d >> 8 & 15) * b.p + (d >> 4 & 15) * b.np + (d & 15) * b.ps - fives;
+    }
+    if (love) {
+        waves(phases, LINES, sines, cosines);
+        for (int i = 0; i < DIURNAL; i++) {
+            c21 += printed[i].second * wave(sines[i]);
+            s21 += printed[i].second * wave(cosines[i]);
+        }
+        for (int i = DIURNAL; i < SEMIDIURNAL; i++) c20 += printed[i].first * wave(cosines[i]) + printed[i].second * wave(sines[i]);
+    } else {
+        waves(phases, DIURNAL, sines, cosines);
+        waves(phases + SEMIDIURNAL, LINES - SEMIDIURNAL, sines + SEMIDIURNAL, cosines + SEMIDIURNAL);
+        for (int i = 0; i < DIURNAL; i++) {
+            c21 += printed[i].first * wave(sines[i]);
+            s21 += printed[i].first * wave(cosines[i]);
+        }
+    }
+    for (int i = SEMIDIURNAL; i < LINES; i++) {
+        c22 += printed[i].first * wave(cosines[i]);
+        s22 -= printed[i].first * wave(sines[i]);
+    }
+    c[3] += nearest_30(100 * c20);
+    c[4] += nearest_30(100 * c21);
+    s[4] += nearest_30(100 * s21);
+    c[5] += nearest_30(100 * c22);
+    s[5] += nearest_30(100 * s22);
+    return 0;
+}
+
+/* ---- step one */
+
+typedef struct { double u, v, w; } direction;
+typedef struct { double p[7], q[7]; } potential;
+
+INLINE uint32_t see(const surfgimlet_body *body, direction *d)
+{
+    double u = body->x, v = body->y, w = body->z, r = body->r, ratio = body->ratio, beyond;
+    if (!(isfinite(ratio) & isfinite(u) & isfinite(v) & isfinite(w) & isfinite(r))) return 3;
+    if (!((r >= 1e8) & (r <= 1e12) & (ratio > 0) & (ratio <= 1e6))) return 4;
+    if (body->kind == SURFGIMLET_RECTANGULAR) { u /= r; v /= r; w /= r; }
+    beyond = ((u * u + v * v) + w * w) - 1;
+    d->u = u; d->v = v; d->w = w;
+    return (beyond >= -0x1p-40) & (beyond <= 0x1p-40) ? 0 : 5;
+}
+
+INLINE potential raised(double ratio, double r, direction d)
+{
+    double u = d.u, v = d.v, w = d.w, w2 = w * w;
+    double q = 6378136.3 / r, q3 = (q * q) * q, two = ratio * q3, three = ratio * (q3 * q);
+    double e1 = u * 1.0 - v * 0.0, f1 = u * 0.0 + v * 1.0;
+    double e2 = u * e1 - v * f1, f2 = u * f1 + v * e1;
+    double e3 = u * e2 - v * f2, f3 = u * f2 + v * e2;
+    double t20 = (2.236067977499789696409 * ((3 * w2 - 1) / 2)) * two;
+    double t21 = (1.290994448735805628393 * (3 * w)) * two;
+    double t22 = (0.645497224367902814196 * 3) * two;
+    double t30 = (2.645751311064590590501 * (((5 * w2 - 3) * w) / 2)) * three;
+    double t31 = (1.080123449734643371827 * ((15 * w2 - 3) / 2)) * three;
+    double t32 = (0.341565025531986612774 * (15 * w)) * three;
+    double t33 = (0.139443337755679257996 * 15) * three;
+    return (potential){{t20 * 1.0, t21 * e1, t22 * e2, t30 * 1.0, t31 * e1, t32 * e2, t33 * e3},
+                       {t20 * 0.0, t21 * f1, t22 * f2, t30 * 0.0, t31 * f1, t32 * f2, t33 * f3}};
+}
+
+/* the count nearest x, of size below 2^52, where x less its whole part is exact */
+INLINE int64_t count(double x)
+{
+    int64_t whole = (int64_t)x;
+    double rest = x - (double)whole;
+    return whole + (rest >= 0.5) - (rest < -0.5);
+}
+
+uint32_t CALL(step_one)(uint32_t n, int64_t *c, size_t c_length, int64_t *s, size_t s_length, surfgimlet_body moon, surfgimlet_body sun, uint32_t love)
+{
+    static const double real[2][7] = {{0.29525, 0.29470, 0.29801, 0.093, 0.093, 0.093, 0.094}, {0.30190, 0.29830, 0.30102, 0.093, 0.093, 0.093, 0.094}};
+    static const double imaginary[2][7] = {{0}, {0, -0.00144, -0.00130}};
+    static const double plus[2][3] = {{-0.00087, -0.00079, -0.00057}, {-0.00089, -0.00080, -0.00057}};
+    double dc[10], ds[10];
+    direction to_moon, to_sun;
+    potential m, b;
+    uint32_t refusal;
+    int small = 1;
+    if (love > 1 || moon.kind > 1 || sun.kind > 1) return 100;
+    if ((refusal = field_refusal(n, c, c_length, s, s_length))) return refusal;
+    if ((refusal = see(&moon, &to_moon))) return refusal;
+    if ((refusal = see(&sun, &to_sun))) return refusal;
+    m = raised(moon.ratio, moon.r, to_moon);
+    b = raised(sun.ratio, sun.r, to_sun);
+    for (int i = 0; i < 7; i++) {
+        double over = i < 3 ? 5 : 7, p = (m.p[i] + b.p[i]) / over, q = (m.q[i] + b.q[i]) / over;
+        dc[i] = (real[love][i] * p + imaginary[love][i] * q) * 1e15;
+        ds[i] = (real[love][i] * q - imaginary[love][i] * p) * 1e15;
+        if (i < 3) {
+            dc[7 + i] = (plus[love][i] * p) * 1e15;
+            ds[7 + i] = (plus[love][i] * q) * 1e15;
+        }
+    }
+    for (int i = 0; i < 10; i++) small &= (fabs(dc[i]) < 0x1p52) & (fabs(ds[i]) < 0x1p52);
+    if (!small) return 6;
+    for (int i = 0; i < 10; i++) c[3 + i] += count(dc[i]);
+    c[3] -= love ? -4200675 : -4108147;
+    s[4] += count(ds[1]); s[5] += count(ds[2]);
+    s[7] += count(ds[4]); s[8] += count(ds[5]); s[9] += count(ds[6]);
+    s[11] += count(ds[8]); s[12] += count(ds[9]);
+    return 0;
+}
+
+/* ---- ocean tide */
+
+typedef struct { size_t lines, tides, places, wide; const uint8_t *line, *row, *place; } layout;
+
+INLINE size_t half(const uint8_t *at) { return at[0] + 256u * at[1]; }
+INLINE uint32_t word(const uint8_t *at) { uint32_t w; memcpy(&w, at, 4); return w; }
+
+/* where the sections stand; 0 where a count is out of its range or the length is not exact */
+INLINE int shaped(const uint8_t *sheet, size_t length, layout *t)
+{
+    size_t at = 2;
+    if (length < at) return 0;
+    t->lines = half(sheet);
+    if (t->lines < 1 || t->lines > 128) return 0;
+    t->line = sheet + at;
+    at += 6 * t->lines + 2;
+    if (length < at) return 0;
+    t->tides = half(sheet + at - 2);
+    if (t->tides < 1 || t->tides > 32) return 0;
+    t->row = sheet + at;
+    at += 4 * t->lines * t->tides + 2;
+    if (length < at) return 0;
+    t->places = half(sheet + at - 2);
+    t->place = sheet + at;
+    t->wide = 2 + 16 * t->tides;
+    return t->places <= 90 && length == at + t->places * t->wide;
+}
+
+/* a place's counts: all the bits of w + 2^24 together, and each by itself only where they reach 2^25 */
+INLINE uint32_t bad_counts(const uint8_t *place, size_t tides)
+{
+    uint32_t bits = 0, bad = 0;
+    for (size_t q = 0; q < 4 * tides; q++) bits |= word(place + 2 + 4 * q) + (UINT32_C(1) << 24);
+    if (bits >> 25)
+        for (size_t q = 0; q < 4 * tides; q++) bad |= word(place + 2 + 4 * q) + (UINT32_C(1) << 24) > UINT32_C(1) << 25;
+    if (place[1] == 0)
+        for (size_t k = 0; k < tides; k++) bad |= word(place + 6 + 16 * k) | word(place + 14 + 16 * k);
+    return bad;
+}
+
+INLINE int valid(const layout *t)
+{
+    uint32_t bad = 0;
+    int before = -1;
+    for (size_t i = 0; i < 6 * t->lines; i++) bad |= (uint8_t)(t->line[i] + 13) > 26;
+    for (size_t k = 0; k < t->tides; k++) {
+        const uint8_t *row = t->row + 4 * t->lines * k;
+        uint64_t total = 0;
+        for (size_t f = 0; f < t->lines; f++) {
+            int32_t a = (int32_t)word(row + 4 * f);
+            total += a < 0 ? -(uint32_t)a : (uint32_t)a;
+        }
+        bad |= total > 4000000;
+    }
+    for (size_t j = 0; j < t->places; j++) {
+        const uint8_t *place = t->place + j * t->wide;
+        int here = place[0] * 256 + place[1];
+        bad |= (place[0] < 1) | (place[0] > 12) | (place[1] > place[0]) | (here <= before) | bad_counts(place, t->tides);
+        before = here;
+    }
+    return !bad;
+}
+
+INLINE int64_t nearest_million(int64_t sum)
+{
+    return (int64_t)(((uint64_t)sum + UINT64_C(1099511627776500000)) / 1000000) - INT64_C(1099511627776);
+}
+
+/* Both factors of each tide, in unsigned products: with 2^22 added to an admittance and 2^30 to a wave,
+ * sum (a - A)(w - W) = sum a*w - A * sum w - W * sum (a - A). */
+INLINE void factors(const layout *t, const uint32_t *sines, const uint32_t *cosines, int64_t *fcos, int64_t *fsin)
+{
+    uint64_t sum_s = 0, sum_c = 0;
+    for (size_t f = 0; f < t->lines; f++) { sum_s += sines[f]; sum_c += cosines[f]; }
+    for (size_t k = 0; k < t->tides; k++) {
+        const uint8_t *row = t->row + 4 * t->lines * k;
+        uint64_t x = 0, y = 0, total = 0;
+        for (size_t f = 0; f < t->lines; f++) {
+            uint64_t a = word(row + 4 * f) + (UINT32_C(1) << 22);
+            x += a * cosines[f];
+            y += a * sines[f];
+            total += a;
+        }
+        total -= (uint64_t)t->lines << 22;
+        fcos[k] = nearest_million((int64_t)(x - (sum_c << 22) - (total << 30)));
+        fsin[k] = nearest_million((int64_t)(y - (sum_s << 22) - (total << 30)));
+    }
+}
+
+uint32_t CALL(ocean_tide)(uint32_t n, int64_t *restrict c, size_t c_length, int64_t *restrict s, size_t s_length, const uint8_t *restrict sheet,
+                          size_t length, surfgimlet_phases b, uint32_t frame)
+{
+    uint32_t phases[128], sines[128], cosines[128], refusal;
+    int64_t fcos[32], fsin[32];
+    layout t;
+    if (frame > 1) return 100;
+    if ((refusal = field_refusal(n, c, c_length, s, s_length))) return refusal;
+    if (!shaped(sheet, length, &t)) return 7;
+    if (!valid(&t)) return 8;
+    if (t.places && t.place[(t.places - 1) * t.wide] > n) return 9;     /* they ascend: the last has the highest degree */
+    for (size_t f = 0; f < t.lines; f++) {
+        const int8_t *m = (const int8_t *)t.line + 6 * f;
+        phases[f] = (uint32_t)m[0] * b.tau + (uint32_t)m[1] * b.s + (uint32_t)m[2] * b.h + (uint32_t)m[3] * b.p + (uint32_t)m[4] * b.np + (uint32_t)m[5] * b.ps;
+    }
+    waves(phases, t.lines, sines, cosines);
+    factors(&t, sines, cosines, fcos, fsin);
+    for (size_t j = 0; j < t.places; j++) {
+        const uint8_t *place = t.place + j * t.wide;
+        size_t at = (size_t)place[0] * (place[0] + 1u) / 2 + place[1];
+        int64_t x = 0, y = 0;
+        if (frame == SURFGIMLET_CENTRE_OF_MASS && place[0] == 1) continue;
+        for (size_t k = 0; k < t.tides; k++) {
+            const uint8_t *q = place + 2 + 16 * k;
+            x += fcos[k] * (int32_t)word(q) + fsin[k] * (int32_t)word(q + 8);
+            y += fcos[k] * (int32_t)word(q + 4) + fsin[k] * (int32_t)word(q + 12);
+        }
+        c[at] += nearest_30(x);
+        s[at] += nearest_30(y);
+    }
+    return 0;
+}

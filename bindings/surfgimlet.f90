@@ -1,0 +1,140 @@
+! Surfgimlet for Fortran: every call of include/surfgimlet.h, which says what each is given, answers and refuses.
+! Fortran has no unsigned numbers: a phase is handed over as the 32 bits that `phase` makes of it.
+module surfgimlet
+    use, intrinsic :: iso_c_binding
+    implicit none
+    private
+    public :: c_int32_t, c_int64_t, c_size_t, c_double, c_int8_t
+    public :: phases, body, phase, words
+    public :: version, step_one, step_two, ocean_tide, move_c20, multipliers_of, number_of, find_line
+
+    integer(c_int32_t), parameter, public :: header_version = 1000000
+    integer(c_int32_t), parameter, public :: elastic = 0, anelastic = 1
+    integer(c_int32_t), parameter, public :: centre_of_figure = 0, centre_of_mass = 1
+    integer(c_int32_t), parameter, public :: tide_free = 0, zero_tide = 1, mean_tide = 2
+    integer(c_int32_t), parameter, public :: rectangular = 0, direction = 1
+
+    ! np is N' = -Omega
+    type, bind(c) :: phases
+        integer(c_int32_t) :: tau, s, h, p, np, ps
+    end type
+
+    ! the mass in Earth masses; x, y, z and the distance r in metres, or x, y, z of length one
+    type, bind(c) :: body
+        integer(c_int32_t) :: kind
+        real(c_double) :: ratio, x, y, z, r
+    end type
+
+    interface
+        integer(c_int32_t) function version() bind(c, name="surfgimlet_version")
+            import
+        end function
+
+        integer(c_int32_t) function c_step_one(n, c, c_length, s, s_length, moon, sun, love_model) &
+            bind(c, name="surfgimlet_step_one")
+            import
+            integer(c_int32_t), value :: n, love_model
+            integer(c_int64_t), intent(inout) :: c(*), s(*)
+            integer(c_size_t), value :: c_length, s_length
+            type(body), value :: moon, sun
+        end function
+
+        integer(c_int32_t) function c_step_two(n, c, c_length, s, s_length, at, love_model) bind(c, name="surfgimlet_step_two")
+            import
+            integer(c_int32_t), value :: n, love_model
+            integer(c_int64_t), intent(inout) :: c(*), s(*)
+            integer(c_size_t), value :: c_length, s_length
+            type(phases), value :: at
+        end function
+
+        integer(c_int32_t) function c_ocean_tide(n, c, c_length, s, s_length, sheet, sheet_length, at, frame) &
+            bind(c, name="surfgimlet_ocean_tide")
+            import
+            integer(c_int32_t), value :: n, frame
+            integer(c_int64_t), intent(inout) :: c(*), s(*)
+            integer(c_size_t), value :: c_length, s_length, sheet_length
+            integer(c_int8_t), intent(in) :: sheet(*)
+            type(phases), value :: at
+        end function
+
+        integer(c_int32_t) function move_c20(c20, from, to, love_model, moved) bind(c, name="surfgimlet_move_c20")
+            import
+            integer(c_int64_t), value :: c20
+            integer(c_int32_t), value :: from, to, love_model
+            integer(c_int64_t), intent(inout) :: moved
+        end function
+
+        integer(c_int32_t) function multipliers_of(number, multipliers) bind(c, name="surfgimlet_multipliers_of")
+            import
+            integer(c_int32_t), value :: number
+            integer(c_int32_t), intent(inout) :: multipliers(6)
+        end function
+
+        integer(c_int32_t) function number_of(multipliers, number) bind(c, name="surfgimlet_number_of")
+            import
+            integer(c_int32_t), intent(in) :: multipliers(6)
+            integer(c_int32_t), intent(inout) :: number
+        end function
+
+        integer(c_int32_t) function find_line(number, index, first, second) bind(c, name="surfgimlet_find_line")
+            import
+            integer(c_int32_t), value :: number
+            integer(c_size_t), intent(inout) :: index
+            integer(c_int64_t), intent(inout) :: first, second
+        end function
+    end interface
+
+contains
+
+    integer(c_int32_t) function step_one(n, c, s, moon, sun, love_model) result(answer)
+        integer(c_int32_t), intent(in) :: n, love_model
+        integer(c_int64_t), intent(inout), contiguous :: c(:), s(:)
+        type(body), intent(in) :: moon, sun
+        answer = c_step_one(n, c, size(c, kind=c_size_t), s, size(s, kind=c_size_t), moon, sun, love_model)
+    end function
+
+    integer(c_int32_t) function step_two(n, c, s, at, love_model) result(answer)
+        integer(c_int32_t), intent(in) :: n, love_model
+        integer(c_int64_t), intent(inout), contiguous :: c(:), s(:)
+        type(phases), intent(in) :: at
+        answer = c_step_two(n, c, size(c, kind=c_size_t), s, size(s, kind=c_size_t), at, love_model)
+    end function
+
+    integer(c_int32_t) function ocean_tide(n, c, s, sheet, at, frame) result(answer)
+        integer(c_int32_t), intent(in) :: n, frame
+        integer(c_int64_t), intent(inout), contiguous :: c(:), s(:)
+        integer(c_int8_t), intent(in), contiguous :: sheet(:)
+        type(phases), intent(in) :: at
+        answer = c_ocean_tide(n, c, size(c, kind=c_size_t), s, size(s, kind=c_size_t), sheet, size(sheet, kind=c_size_t), at, frame)
+    end function
+
+    ! the 32 bits of a phase, a turn being 2**32; whole turns are left out
+    elemental integer(c_int32_t) function phase(units)
+        integer(c_int64_t), intent(in) :: units
+        integer(c_int64_t), parameter :: turn = 2_c_int64_t**32
+        integer(c_int64_t) :: rest
+        rest = modulo(units, turn)
+        phase = int(merge(rest - turn, rest, rest >= turn / 2), c_int32_t)
+    end function
+
+    function words(answer)
+        integer(c_int32_t), intent(in) :: answer
+        character(:), allocatable :: words
+        select case (answer)
+        case (0); words = "accepted"
+        case (1); words = "the degree is outside 4..60, or a list has another length"
+        case (2); words = "an entry of the field, or the C20 to move, is outside -2^60..2^60"
+        case (3); words = "a number of a body's place, or its mass ratio, is not finite"
+        case (4); words = "a body's distance is outside 10^8..10^12 m, or its mass ratio is not above 0 and at most 10^6"
+        case (5); words = "a body's direction is not of length one: its square differs from 1 by more than 2^-40"
+        case (6); words = "a step-one correction, before the permanent part, is not strictly between -2^52 and 2^52 counts"
+        case (7); words = "the sheet has a section's count outside its range, or another length"
+        case (8); words = "the sheet has a value or a row's total out of range, an S not zero at order 0, or places not ascending"
+        case (9); words = "the sheet has a place of degree above the field's"
+        case (10); words = "the Doodson number is above 999,999, or none can write the multipliers"
+        case (11); words = "no printed line has the Doodson number"
+        case (100); words = "a choice, or a body's kind, is none of its numbers"
+        case default; words = "no answer of this unit"
+        end select
+    end function
+end module

@@ -1,0 +1,158 @@
+"""Surfgimlet for Python: every call of include/surfgimlet.h over the shared object, refusals as exceptions.
+
+The header says what each call is given, answers and refuses. C and S are lists of whole numbers, or array('q'), which saves two copies; an accepted
+call corrects them in place, and a refused one raises Refused and leaves them. A number that the call's C type cannot hold raises OverflowError.
+The library is the one beside this file's folder (PREFIX/lib), or the one that SURFGIMLET_LIBRARY names.
+"""
+import ctypes
+import math
+import operator
+import os
+import pathlib
+from array import array
+from collections import namedtuple
+from ctypes import POINTER, byref, c_double, c_int32, c_int64, c_size_t, c_uint8, c_uint32
+
+VERSION = 1000000
+ELASTIC, ANELASTIC = 0, 1
+CENTRE_OF_FIGURE, CENTRE_OF_MASS = 0, 1
+TIDE_FREE, ZERO_TIDE, MEAN_TIDE = 0, 1, 2
+RECTANGULAR, DIRECTION = 0, 1
+
+WORDS = {
+    0: "accepted",
+    1: "the degree is outside 4..60, or a list has another length",
+    2: "an entry of the field, or the C20 to move, is outside -2^60..2^60",
+    3: "a number of a body's place, or its mass ratio, is not finite",
+    4: "a body's distance is outside 10^8..10^12 m, or its mass ratio is not above 0 and at most 10^6",
+    5: "a body's direction is not of length one: its square differs from 1 by more than 2^-40",
+    6: "a step-one correction, before the permanent part, is not strictly between -2^52 and 2^52 counts",
+    7: "the sheet has a section's count outside its range, or another length",
+    8: "the sheet has a value or a row's total out of range, an S not zero at order 0, or places not ascending",
+    9: "the sheet has a place of degree above the field's",
+    10: "the Doodson number is above 999,999, or none can write the multipliers",
+    11: "no printed line has the Doodson number",
+    100: "a choice, or a body's kind, is none of its numbers",
+}
+
+# np is N' = -Omega
+Phases = namedtuple('Phases', 'tau s h p np ps')
+# the mass in Earth masses; x, y, z and the distance r in metres, or x, y, z of length one
+Body = namedtuple('Body', 'kind ratio x y z r')
+Line = namedtuple('Line', 'index first second')
+
+
+class Refused(ValueError):
+    """A call was refused, and changed nothing: number is its answer."""
+
+    def __init__(self, number):
+        super().__init__(f'refused with {number}: {WORDS.get(number, "no answer of this unit")}')
+        self.number = number
+
+
+def rectangular(ratio, x, y, z):
+    """A body at x, y, z in metres, its distance worked out from them."""
+    return Body(RECTANGULAR, ratio, x, y, z, math.sqrt(x * x + y * y + z * z))
+
+
+class _Phases(ctypes.Structure):
+    _fields_ = [(name, c_uint32) for name in Phases._fields]
+
+
+class _Body(ctypes.Structure):
+    _fields_ = [('kind', c_uint32)] + [(name, c_double) for name in Body._fields[1:]]
+
+
+def _library():
+    beside = pathlib.Path(__file__).resolve().parents[2] / 'lib' / 'libsurfgimlet.so'
+    library = ctypes.CDLL(os.environ.get('SURFGIMLET_LIBRARY') or str(beside))
+    lists = [c_uint32, POINTER(c_int64), c_size_t, POINTER(c_int64), c_size_t]
+    for name, given in (
+            ('version', []),
+            ('step_one', lists + [_Body, _Body, c_uint32]),
+            ('step_two', lists + [_Phases, c_uint32]),
+            ('ocean_tide', lists + [POINTER(c_uint8), c_size_t, _Phases, c_uint32]),
+            ('move_c20', [c_int64, c_uint32, c_uint32, c_uint32, POINTER(c_int64)]),
+            ('multipliers_of', [c_uint32, POINTER(c_int32)]),
+            ('number_of', [POINTER(c_int32), POINTER(c_uint32)]),
+            ('find_line', [c_uint32, POINTER(c_size_t), POINTER(c_int64), POINTER(c_int64)])):
+        call = getattr(library, 'surfgimlet_' + name)
+        call.argtypes, call.restype = given, c_uint32
+    return library
+
+
+_unit = _library()
+
+
+def _accepted(number):
+    if number != 0:
+        raise Refused(number)
+
+
+def _u32(value):
+    # ctypes itself would take 2^32 + 165555 for 165555
+    if not 0 <= operator.index(value) < 2 ** 32:
+        raise OverflowError(f'{value} is not in 0..2^32-1')
+    return value
+
+
+def _phases(phases):
+    return _Phases(*map(_u32, phases))
+
+
+def _body(body):
+    return _Body(_u32(body[0]), *body[1:])
+
+
+def _over_field(call, n, c, s, *given):
+    if c is s:
+        raise ValueError('C and S are one list')
+    lent = [l if isinstance(l, array) and l.typecode == 'q' else array('q', l) for l in (c, s)]
+    views = [(c_int64 * len(l)).from_buffer(l) for l in lent]
+    _accepted(call(_u32(n), views[0], len(c), views[1], len(s), *given))
+    for own, corrected in zip((c, s), lent):
+        if own is not corrected:
+            own[:] = corrected
+
+
+def version():
+    return _unit.surfgimlet_version()
+
+
+def step_one(n, c, s, moon, sun, love_model):
+    _over_field(_unit.surfgimlet_step_one, n, c, s, _body(moon), _body(sun), _u32(love_model))
+
+
+def step_two(n, c, s, phases, love_model):
+    _over_field(_unit.surfgimlet_step_two, n, c, s, _phases(phases), _u32(love_model))
+
+
+def ocean_tide(n, c, s, sheet, phases, frame):
+    held = (c_uint8 * len(sheet)).from_buffer_copy(sheet)
+    _over_field(_unit.surfgimlet_ocean_tide, n, c, s, held, len(sheet), _phases(phases), _u32(frame))
+
+
+def move_c20(c20, from_system, to_system, love_model):
+    given, moved = array('q', [c20])[0], c_int64()
+    _accepted(_unit.surfgimlet_move_c20(given, _u32(from_system), _u32(to_system), _u32(love_model), byref(moved)))
+    return moved.value
+
+
+def multipliers_of(number):
+    multipliers = (c_int32 * 6)()
+    _accepted(_unit.surfgimlet_multipliers_of(_u32(number), multipliers))
+    return tuple(multipliers)
+
+
+def number_of(multipliers):
+    given, number = array('i', multipliers), c_uint32()
+    if len(given) != 6:
+        raise ValueError('six multipliers are wanted')
+    _accepted(_unit.surfgimlet_number_of((c_int32 * 6)(*given), byref(number)))
+    return number.value
+
+
+def find_line(number):
+    index, first, second = c_size_t(), c_int64(), c_int64()
+    _accepted(_unit.surfgimlet_find_line(_u32(number), byref(index), byref(first), byref(second)))
+    return Line(index.value, first.value, second.value)

@@ -1,0 +1,132 @@
+-- Each band's terms are the definition's, and what a band does not name stays.
+use borrow.Author.Needs.{needs}
+use mathlib.Core.Path.{_≡_}
+use Prim.Native.Nat.{_^_, _≤_}
+use native.Mathlib.Omega.{arith}
+use lib.IntN.{ℤ, pos, negℤ, natAbs, _-ℤ_}
+use mir.Syntax.{w64}
+use mir.Val.{toZ, ofZ}
+use Rattle.bands.specs.declared.Sums.{Sums}
+use Rattle.bands.specs.Inner.{Room}
+use Rattle.bands.proofs.Terms.{read, minus-fits, minus-read, minus-small, room, grown, diurnal, long-period, semidiurnal}
+use Rattle.bands.proofs.with_line.Statement.{statement}
+use Rattle.bands.proofs.with_line.Tie as tie
+
+sub-minus-ip : tie.Need-sub-minus-ip
+sub-minus-ip c = minus-fits (c .before .before .args .line .ip) (c .before .before .pre .ip-small)
+
+sub-minus-op : tie.Need-sub-minus-op
+sub-minus-op c = minus-fits (c .before .before .args .line .op) (c .before .before .pre .op-small)
+
+enum-told : tie.Need-enum-told
+enum-told c = search needs
+
+plus-wave-requires : tie.Need-plus-wave-requires
+plus-wave-requires c κs = search needs
+
+-- the numbers given, as the machine reads them
+module _ (c : tie.Start) where
+  abbrev ip : ℤ
+  ip = c .args .line .ip
+
+  abbrev op : ℤ
+  op = c .args .line .op
+
+  abbrev sums : Sums
+  sums = c .args .sums
+
+  abbrev held : ℤ → ℤ
+  held z = toZ w64 (ofZ w64 z)
+
+  ip-read : held ip ≡ ip
+  ip-read = read ip (omega (arith, c .pre .ip-small))
+
+  op-read : held op ≡ op
+  op-read = read op (omega (arith, c .pre .op-small))
+
+  minus-ip-read : held (pos 0 -ℤ held ip) ≡ negℤ ip
+  minus-ip-read = minus-read ip (c .pre .ip-small)
+
+  minus-op-read : held (pos 0 -ℤ held op) ≡ negℤ op
+  minus-op-read = minus-read op (c .pre .op-small)
+
+  cosine-read : held (c .args .cosine) ≡ c .args .cosine
+  cosine-read = read (c .args .cosine) (omega (arith, c .pre .cosine-small))
+
+  sine-read : held (c .args .sine) ≡ c .args .sine
+  sine-read = read (c .args .sine) (omega (arith, c .pre .sine-small))
+
+  -- room for a term, its amplitudes a and b
+  for-term : (t a b : ℤ) → natAbs t ≤ 2 ^ 62 → natAbs a ≤ 2 ^ 24 → natAbs b ≤ 2 ^ 24 → Room t a (c .args .cosine) b (c .args .sine)
+  for-term t a b ht ha hb = record { sum-small = ht; a-small = ha; cosine-small = c .pre .cosine-small; b-small = hb; sine-small = c .pre .sine-small }
+
+plus-wave-requires-2 : tie.Need-plus-wave-requires-2
+plus-wave-requires-2 c κs =
+    let s = c .before .before .before .before .before .before .before in
+    let p = s .pre in
+    room (read (sums s .s21) (p .s21-small)) (ip-read s) (cosine-read s) (minus-op-read s) (sine-read s)
+    (for-term s (sums s .s21) (ip s) (negℤ (op s)) (p .s21-small) (p .ip-small) (minus-small (op s) (p .op-small)))
+
+enum-told-2 : tie.Need-enum-told-2
+enum-told-2 c = search needs
+
+plus-wave-requires-3 : tie.Need-plus-wave-requires-3
+plus-wave-requires-3 c κs = search needs
+
+enum-told-3 : tie.Need-enum-told-3
+enum-told-3 c = search needs
+
+plus-wave-requires-4 : tie.Need-plus-wave-requires-4
+plus-wave-requires-4 c κs =
+    let s = c .before .before .before .before .before in
+    let p = s .pre in
+    room (read (sums s .c22) (p .c22-small)) (ip-read s) (cosine-read s) (minus-op-read s) (sine-read s)
+    (for-term s (sums s .c22) (ip s) (negℤ (op s)) (p .c22-small) (p .ip-small) (minus-small (op s) (p .op-small)))
+
+plus-wave-requires-5 : tie.Need-plus-wave-requires-5
+plus-wave-requires-5 c κs =
+    let s = c .before .before .before .before .before .before .before in
+    let p = s .pre in
+    room (read (sums s .s22) (p .s22-small)) (minus-op-read s) (cosine-read s) (minus-ip-read s) (sine-read s)
+    (for-term s (sums s .s22) (negℤ (op s)) (negℤ (ip s)) (p .s22-small) (minus-small (op s) (p .op-small)) (minus-small (ip s) (p .ip-small)))
+
+returns : tie.Need-returns
+returns c =
+    let s = c .before .before .before .before .before .before .before .before in
+    let p = s .pre in
+    diurnal (sums s) (s .args .line) (s .args .cosine) (s .args .sine) (c .before .before .before .before .enum-told .given .1)
+    (grown (read (sums s .c21) (p .c21-small)) (op-read s) (cosine-read s) (ip-read s) (sine-read s) (c .before .before .plus-wave .ensures))
+    (grown (read (sums s .s21) (p .s21-small)) (ip-read s) (cosine-read s) (minus-op-read s) (sine-read s) (c .plus-wave2 .ensures))
+
+returns-2 : tie.Need-returns-2
+returns-2 c =
+    let s = c .before .before .before .before .before .before in
+    let p = s .pre in
+    long-period (sums s) (s .args .line) (s .args .cosine) (s .args .sine) (c .before .before .enum-told2 .given .1)
+    (grown (read (sums s .c20) (p .c20-small)) (ip-read s) (cosine-read s) (op-read s) (sine-read s) (c .plus-wave3 .ensures))
+
+returns-3 : tie.Need-returns-3
+returns-3 c =
+    let s = c .before .before .before .before .before .before .before .before in
+    let p = s .pre in
+    semidiurnal (sums s) (s .args .line) (s .args .cosine) (s .args .sine) (c .before .before .before .before .enum-told3 .given .1)
+    (grown (read (sums s .c22) (p .c22-small)) (ip-read s) (cosine-read s) (minus-op-read s) (sine-read s) (c .before .before .plus-wave4 .ensures))
+    (grown (read (sums s .s22) (p .s22-small)) (minus-op-read s) (cosine-read s) (minus-ip-read s) (sine-read s) (c .plus-wave5 .ensures))
+
+pub with-line-spec : {M : Type 1} → statement M
+with-line-spec =
+    tie.close
+    (tie.spec
+    sub-minus-ip
+    sub-minus-op
+    enum-told
+    plus-wave-requires
+    plus-wave-requires-2
+    enum-told-2
+    plus-wave-requires-3
+    enum-told-3
+    plus-wave-requires-4
+    plus-wave-requires-5
+    returns
+    returns-2
+    returns-3)

@@ -1,0 +1,27 @@
+-- What is kept of a call's phases.
+use mathlib.Core.Bool.{Bool, true, cond, _||_}
+use mathlib.Core.List.{List}
+use mathlib.Core.Path.{_≡_}
+use Prim.Native.Nat.{ℕ, _<_}
+use lib.Dec.{ltb, leb}
+use lib.IntN.{ℤ, pos}
+use lib.ListN.{getD}
+use Rattle.arguments.specs.declared.Phases.{Phases}
+use Rattle.choices.specs.declared.LoveModel.{LoveModel}
+use Rattle.choices.specs.declared.LoveModel.the-variants.{Elastic, Anelastic}
+use Rattle.lines.specs.Lines.{linePhase}
+use Rattle.wave.specs.Wave.{sin, cos}
+use Rattle.hour.specs.declared.Waves.{Waves}
+
+-- the elastic model has no amplitudes for the long-period lines
+unfoldable pub isUsed : LoveModel → ℕ → Bool
+isUsed Elastic i = ltb i 26 || leb 47 i
+isUsed Anelastic i = true
+
+abbrev pub kept : List ℤ → ℕ → ℤ
+kept l i = getD l i (pos 0)
+
+-- waves that hold those of the lines used
+pub record Waved (phases : Phases) (love : LoveModel) (w : Waves) : Type 0 where
+  pub cosines : (i : ℕ) → i < 49 → kept (w .cosines) i ≡ cond (isUsed love i) (cos (linePhase phases i)) (pos 0)
+  pub sines : (i : ℕ) → i < 49 → kept (w .sines) i ≡ cond (isUsed love i) (sin (linePhase phases i)) (pos 0)

@@ -1,0 +1,56 @@
+// The waves of the printed lines at six phases, worked out once.
+ghost use mathlib.Core.Path.{_≡_};
+ghost use mathlib.Core.Bool.{cond};
+ghost use lib.IntN.{pos};
+ghost use Rattle.arguments.specs.Phase.{phase};
+ghost use Rattle.lines.specs.Inner.{multipliersBy};
+ghost use Rattle.wave.specs.Wave.{sin, cos};
+ghost use Rattle.hour.specs.Inner.{isUsed, Waved};
+use arguments::Phases;
+use choices::LoveModel;
+use wave::Wave;
+
+// The cosines and the sines of the printed lines, in units of 2^-30.
+pub struct Waves {
+    pub cosines: [i32; 49],
+    pub sines: [i32; 49],
+}
+
+// Whether a Love model has amplitudes for a line.
+fn is_used(love: LoveModel, i: usize) -> bool
+    ensures { λ r. ⌜ r ≡ isUsed love i ⌝ }
+{
+    match love {
+        LoveModel::Elastic => (i < 26) | (47 <= i),
+        LoveModel::Anelastic => true,
+    }
+}
+
+// The wave of the line with a number's digits, or zeros where it is not used.
+fn wave_by(digits: u32, phases: Phases, used: bool) -> Wave
+    ensures { λ r. ⌜ (r .cosine ≡ cond used (cos (phase (multipliersBy digits) phases)) (pos 0)) × (r .sine ≡ cond used (sin (phase (multipliersBy digits) phases)) (pos 0)) ⌝ }
+{
+    if used {
+        wave::wave_of(arguments::phase_of(lines::multipliers_by(digits), phases))
+    } else {
+        Wave { sine: 0, cosine: 0 }
+    }
+}
+
+// The waves of the lines that a Love model uses; the others are left zero.
+pub fn waves_of(phases: Phases, love: LoveModel) -> Waves
+    ensures { λ r. ⌜ Waved phases love r ⌝ }
+{
+    let tables = lines::printed_tables();
+    let digits = tables.digits;
+    let mut cosines = [0i32; 49];
+    let mut sines = [0i32; 49];
+    let mut i = 0;
+    while i < 49 {
+        let wave = wave_by(digits[i], phases, is_used(love, i));
+        cosines[i] = wave.cosine as i32;
+        sines[i] = wave.sine as i32;
+        i += 1;
+    }
+    Waves { cosines, sines }
+}

@@ -1,0 +1,36 @@
+-- Counted tests: of all at once, of the same at each, and of rows of one length taken one after another.
+use mathlib.Core.Path.{_≡_, refl, sym, _∙_}
+use mathlib.Core.Bool.{Bool, true, false, _&&_}
+use Prim.Native.Nat.{ℕ, zero, suc, _+_, _*_, _<_}
+use native.Mathlib.Nat.{add-zero, add-suc, mul-zero, mul-suc}
+use native.Mathlib.Omega.{arith}
+use Rattle.whole.specs.Sum.{allTo}
+
+pub all-of : (f : ℕ → Bool) (n : ℕ) → ((i : ℕ) → i < n → f i ≡ true) → allTo f n ≡ true
+unfolding allTo
+all-of f zero h = refl
+all-of f (suc n) h = rw (all-of f n (λ i l. h i (omega arith)), h n (omega arith))
+
+pub all-same : (f g : ℕ → Bool) (n : ℕ) → ((i : ℕ) → i < n → f i ≡ g i) → allTo f n ≡ allTo g n
+unfolding allTo
+all-same f g zero h = refl
+all-same f g (suc n) h = rw (all-same f g n (λ i l. h i (omega arith)), h n (omega arith))
+
+and-true : (a : Bool) → a ≡ (a && true)
+and-true true = refl
+and-true false = refl
+
+and-assoc : (a b c : Bool) → (a && b && c) ≡ (a && (b && c))
+and-assoc true b c = refl
+and-assoc false b c = refl
+
+all-append : (f : ℕ → Bool) (a b : ℕ) → allTo f (a + b) ≡ (allTo f a && allTo (λ i. f (a + i)) b)
+unfolding allTo
+all-append f a zero = rw add-zero (and-true (allTo f a))
+all-append f a (suc b) = rw (add-suc a b, all-append f a b) (and-assoc (allTo f a) (allTo (λ i. f (a + i)) b) (f (a + b)))
+
+-- n rows of w, as one run of w * n
+pub all-rows : (w : ℕ) (f : ℕ → Bool) (n : ℕ) → allTo f (w * n) ≡ allTo (λ k. allTo (λ q. f (w * k + q)) w) n
+unfolding allTo
+all-rows w f zero = rw mul-zero
+all-rows w f (suc n) = rw (mul-suc w n, all-append f (w * n) w, all-rows w f n)

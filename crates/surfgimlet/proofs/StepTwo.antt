@@ -1,0 +1,66 @@
+-- Step two's five counts as the two lists that the writer takes, and the places that they go to.
+use mathlib.Core.Path.{_≡_, refl, ap, _∙_}
+use mathlib.Core.List.{List, [], _∷_}
+use Prim.Native.Nat.{ℕ, zero, suc, _+_, _^_, _≤_, _<_}
+use native.Mathlib.Omega.{arith}
+use lib.IntN.{ℤ, pos, natAbs}
+use lib.ListN.{length, getD}
+use mir.Syntax.{w64}
+use mir.Facts.{toZ-ofZ}
+use mir.Val.{toZ, ofZ}
+use Rattle.field.specs.Added.{addedAt}
+use Rattle.field.specs.Inner.{Small, addedFrom}
+use Rattle.field.proofs.Added.{the-places, at-run}
+use Rattle.step_two.specs.declared.Corrections.{Corrections}
+use Rattle.step_two.specs.Inner.{Small as SmallCorrections}
+use Rattle.whole.proofs.Parts.{fits-abs}
+use Rattle.surfgimlet.specs.Calls.{forC, forS, placesC, placesS}
+
+abbrev read : ℤ → ℤ
+read z = toZ w64 (ofZ w64 z)
+
+-- the places stand one after the other
+pub c-run : (k : ℕ) → k < length placesC → the-places placesC k ≡ 3 + k
+unfolding placesC
+c-run zero h = refl
+c-run (suc zero) h = refl
+c-run (suc (suc zero)) h = refl
+c-run (suc (suc (suc k))) h = absurd (omega arith)
+
+pub s-run : (k : ℕ) → k < length placesS → the-places placesS k ≡ 4 + k
+unfolding placesS
+s-run zero h = refl
+s-run (suc zero) h = refl
+s-run (suc (suc k)) h = absurd (omega arith)
+
+module _ (d : Corrections) (s : SmallCorrections d) where
+  pub read-c : read (d .c20) ∷ read (d .c21) ∷ read (d .c22) ∷ [] ≡ forC d
+  read-c = rw (toZ-ofZ (fits-abs w64 (d .c20) (omega (arith, s .c20))), toZ-ofZ (fits-abs w64 (d .c21) (omega (arith, s .c21))), toZ-ofZ (fits-abs w64 (d .c22) (omega (arith, s .c22)))) refl
+
+  pub read-s : read (d .s21) ∷ read (d .s22) ∷ [] ≡ forS d
+  read-s = rw (toZ-ofZ (fits-abs w64 (d .s21) (omega (arith, s .s21))), toZ-ofZ (fits-abs w64 (d .s22) (omega (arith, s .s22)))) refl
+
+  pub small-c : Small (forC d)
+  small-c = record { each = λ k. each k }
+    where
+      each : (k : ℕ) → natAbs (getD (forC d) k (pos 0)) ≤ 2 ^ 60
+      each zero = s .c20
+      each (suc zero) = s .c21
+      each (suc (suc zero)) = s .c22
+      each (suc (suc (suc k))) = omega arith
+
+  pub small-s : Small (forS d)
+  small-s = record { each = λ k. each k }
+    where
+      each : (k : ℕ) → natAbs (getD (forS d) k (pos 0)) ≤ 2 ^ 60
+      each zero = s .s21
+      each (suc zero) = s .s22
+      each (suc (suc k)) = omega arith
+
+pub added-c : (d : Corrections) (l : List ℤ) → addedFrom 3 (forC d) l ≡ addedAt placesC (forC d) l
+unfolding placesC
+added-c d l = at-run placesC (forC d) l 3 c-run refl
+
+pub added-s : (d : Corrections) (l : List ℤ) → addedFrom 4 (forS d) l ≡ addedAt placesS (forS d) l
+unfolding placesS
+added-s d l = at-run placesS (forS d) l 4 s-run refl

@@ -1,0 +1,116 @@
+/* Every call at one epoch, 2004-05-17 0h: `epoch SHEET <epoch.txt`. The input is six phases, then of the Moon and of the Sun the mass
+ * ratio, x, y, z and r. The corrections are gathered in zeros of degree 12; a processor adds 1e-15 times each to its own coefficients. */
+#include <errno.h>
+#include <inttypes.h>
+#include <stdio.h>
+#include <stdlib.h>
+#include "surfgimlet.h"
+
+#define DEGREE 12
+#define ENTRIES ((DEGREE + 1) * (DEGREE + 2) / 2)
+
+static int64_t c[ENTRIES], s[ENTRIES], c_before[ENTRIES], s_before[ENTRIES];
+
+/* Ends the program where a call was refused. */
+static void accepted(const char *call, uint32_t answer)
+{
+    if (answer == SURFGIMLET_ACCEPTED) return;
+    printf("%s refused with %" PRIu32 ": %s\n", call, answer, surfgimlet_words(answer));
+    exit(1);
+}
+
+/* Prints what a call has added. */
+static void added(const char *call)
+{
+    puts(call);
+    for (int n = 0, i = 0; n <= DEGREE; n++)
+        for (int m = 0; m <= n; m++, i++) {
+            if (c[i] != c_before[i]) printf("C(%d,%d) %+" PRId64 "\n", n, m, c[i] - c_before[i]);
+            if (s[i] != s_before[i]) printf("S(%d,%d) %+" PRId64 "\n", n, m, s[i] - s_before[i]);
+            c_before[i] = c[i];
+            s_before[i] = s[i];
+        }
+}
+
+/* A phase, 0 to 2^32 - 1 and nothing else: scanf itself would take -1 and 99999999999. */
+static uint32_t phase(void)
+{
+    char word[32] = "", *end = word;
+    unsigned long long value = 0;
+    errno = 0;
+    if (scanf("%31s", word) == 1 && word[0] >= '0' && word[0] <= '9') value = strtoull(word, &end, 10);
+    if (end == word || *end != 0 || errno != 0 || value > UINT32_MAX) {
+        printf("'%s' is no phase\n", word);
+        exit(1);
+    }
+    return (uint32_t)value;
+}
+
+static surfgimlet_body body(void)
+{
+    surfgimlet_body b = {SURFGIMLET_RECTANGULAR, 0, 0, 0, 0, 0};
+    if (scanf("%lf%lf%lf%lf%lf", &b.ratio, &b.x, &b.y, &b.z, &b.r) != 5) {
+        puts("five numbers of a body are wanted");
+        exit(1);
+    }
+    return b;
+}
+
+static size_t read_sheet(const char *name, uint8_t *sheet, size_t room)
+{
+    FILE *file = name == NULL ? NULL : fopen(name, "rb");
+    if (file == NULL) {
+        puts("a sheet is wanted");
+        exit(1);
+    }
+    size_t length = fread(sheet, 1, room, file);
+    fclose(file);
+    return length;
+}
+
+int main(int argc, char **argv)
+{
+    const uint32_t love = SURFGIMLET_ANELASTIC;
+    static uint8_t sheet[65536];
+    size_t sheet_length = read_sheet(argc == 2 ? argv[1] : NULL, sheet, sizeof sheet);
+    surfgimlet_phases at;
+    at.tau = phase();
+    at.s = phase();
+    at.h = phase();
+    at.p = phase();
+    at.np = phase();
+    at.ps = phase();
+    surfgimlet_body moon = body(), sun = body();
+
+    if (surfgimlet_version() != SURFGIMLET_VERSION) {
+        puts("library and header are of two versions");
+        return 1;
+    }
+    printf("version %" PRIu32 "\n", surfgimlet_version());
+
+    /* step one wants a zero-tide C20: a tide-free one, made with this Love model's k20, is moved once, before the first epoch */
+    int64_t c20;
+    accepted("move_c20", surfgimlet_move_c20(-484165000000000, SURFGIMLET_TIDE_FREE, SURFGIMLET_ZERO_TIDE, love, &c20));
+    printf("C20 zero-tide %" PRId64 "\n", c20);
+
+    accepted("step_one", surfgimlet_step_one(DEGREE, c, ENTRIES, s, ENTRIES, moon, sun, love));
+    added("step one");
+    accepted("step_two", surfgimlet_step_two(DEGREE, c, ENTRIES, s, ENTRIES, at, love));
+    added("step two");
+    accepted("ocean_tide", surfgimlet_ocean_tide(DEGREE, c, ENTRIES, s, ENTRIES, sheet, sheet_length, at, SURFGIMLET_CENTRE_OF_MASS));
+    added("ocean tide");
+
+    /* K1 is 165,555; a printed line by its number, and a number that none has */
+    int32_t n[6];
+    uint32_t number;
+    size_t index;
+    int64_t first, second;
+    accepted("multipliers_of", surfgimlet_multipliers_of(165555, n));
+    accepted("number_of", surfgimlet_number_of(n, &number));
+    printf("%" PRIu32 " is", number);
+    for (int i = 0; i < 6; i++) printf(" %" PRId32, n[i]);
+    accepted("find_line", surfgimlet_find_line(number, &index, &first, &second));
+    printf("\nline %zu amplitudes %" PRId64 " %" PRId64 "\n", index, first, second);
+    printf("265555: %s\n", surfgimlet_words(surfgimlet_find_line(265555, &index, &first, &second)));
+    return 0;
+}

@@ -1,0 +1,58 @@
+"""Every call at one epoch, 2004-05-17 0h: `python3 epoch.py SHEET <epoch.txt`. The input is six phases, then of the Moon and of the Sun the mass
+ratio, x, y, z and r. The corrections are gathered in zeros of degree 12; a processor adds 1e-15 times each to its own coefficients."""
+import sys
+
+import surfgimlet as unit
+
+DEGREE = 12
+PLACES = [(n, m) for n in range(DEGREE + 1) for m in range(n + 1)]
+
+
+def added(name, before, after):
+    """Prints what a call has added."""
+    print(name)
+    for (n, m), *entries in zip(PLACES, *before, *after):
+        for letter, old, new in (('C', entries[0], entries[2]), ('S', entries[1], entries[3])):
+            if new != old:
+                print(f'{letter}({n},{m}) {new - old:+}')
+
+
+def main():
+    with open(sys.argv[1], 'rb') as file:
+        sheet = file.read()
+    words = sys.stdin.read().split()
+    # a number that is no phase is refused here by OverflowError, in the call
+    phases = unit.Phases(*map(int, words[:6]))
+    moon, sun = (unit.Body(unit.RECTANGULAR, *map(float, words[at:at + 5])) for at in (6, 11))
+    love = unit.ANELASTIC
+
+    if unit.version() != unit.VERSION:
+        raise SystemExit('library and module are of two versions')
+    print('version', unit.version())
+
+    # step one wants a zero-tide C20: a tide-free one, made with this Love model's k20, is moved once, before the first epoch
+    print('C20 zero-tide', unit.move_c20(-484165000000000, unit.TIDE_FREE, unit.ZERO_TIDE, love))
+
+    c, s = [0] * len(PLACES), [0] * len(PLACES)
+    for name, call in (
+            ('step one', lambda: unit.step_one(DEGREE, c, s, moon, sun, love)),
+            ('step two', lambda: unit.step_two(DEGREE, c, s, phases, love)),
+            ('ocean tide', lambda: unit.ocean_tide(DEGREE, c, s, sheet, phases, unit.CENTRE_OF_MASS))):
+        before = c[:], s[:]
+        call()
+        added(name, before, (c, s))
+
+    # K1 is 165,555; a printed line by its number, and a number that none has
+    multipliers = unit.multipliers_of(165555)
+    number = unit.number_of(multipliers)
+    print(number, 'is', *multipliers)
+    line = unit.find_line(number)
+    print(f'line {line.index} amplitudes {line.first} {line.second}')
+    try:
+        unit.find_line(265555)
+    except unit.Refused as refused:
+        print(f'265555: {unit.WORDS[refused.number]}')
+
+
+if __name__ == '__main__':
+    main()
