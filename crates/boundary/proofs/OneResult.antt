@@ -3,9 +3,9 @@ use mathlib.Core.List.{List}
 use mathlib.Core.Path.{_≡_, sym, _∙_}
 use Prim.Native.Nat.{ℕ}
 use lib.IntN.{ℤ}
+use Rattle.leaving.specs.Leaving.{Leaves}
 use Rattle.refusals.specs.Outcome.{Outcome, Gives}
 use Rattle.refusals.specs.Told.{Told}
-use Rattle.boundary.specs.Calls.{Leaves}
 
 -- step one, step two and the ocean tide: the answer and both lists
 pub one-outcome : (o : Outcome) (number number′ : ℕ) (c c′ s s′ : List ℤ) → Gives o number c s → Gives o number′ c′ s′ → (number ≡ number′) × (c ≡ c′) × (s ≡ s′)

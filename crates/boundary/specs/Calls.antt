@@ -1,16 +1,13 @@
 -- What each call answers to C, and every lent entry afterwards: the unit's own call, or 100 and nothing changed.
-use mathlib.Core.List.{List, [], _∷_}
-use mathlib.Core.Path.{_≡_}
+use mathlib.Core.List.{List}
 use Prim.Native.Nat.{ℕ, _+_, _*_}
-use lib.IntN.{ℤ, pos}
-use lib.ListN.{getD}
-use Rattle.arguments.specs.declared.Multipliers.{Multipliers}
+use lib.IntN.{ℤ}
 use Rattle.arguments.specs.declared.Phases.{Phases}
-use Rattle.refusals.specs.Told.{Told, toldNumber, next}
+use Rattle.refusals.specs.Told.{Told, next}
 use Rattle.refusals.specs.Told.Told.{accepted, refused}
-use Rattle.doodson.specs.Doodson.{readDoodson, writeDoodson}
+use Rattle.doodson.specs.Doodson.{readDoodson}
 use Rattle.refusals.specs.Outcome.{Outcome}
-use Rattle.lines.specs.Lines.{Found}
+use Rattle.leaving.specs.Leaving.{listedOf}
 use Rattle.ocean.specs.Ocean.{oceanTide}
 use Rattle.permanent.specs.Systems.{movedC20}
 use Rattle.step_one.specs.StepOne.{stepOne}
@@ -41,33 +38,5 @@ unfoldable pub moveGiven : ℤ → ℕ → ℕ → ℕ → Told ℤ
 moveGiven c20 from to love =
     next (permanentSystem from) (λ f. next (permanentSystem to) (λ t. next (loveModel love) (λ k. movedC20 c20 f t k)))
 
--- six multipliers in a lent list, in the order of the arguments
-abbrev pub listed : Multipliers → List ℤ
-listed m = m .tau ∷ m .s ∷ m .h ∷ m .p ∷ m .np ∷ m .ps ∷ []
-
-abbrev pub unlisted : List ℤ → Multipliers
-unlisted l = record {
-  tau = getD l 0 (pos 0);
-  s = getD l 1 (pos 0);
-  h = getD l 2 (pos 0);
-  p = getD l 3 (pos 0);
-  np = getD l 4 (pos 0);
-  ps = getD l 5 (pos 0);
-}
-
 abbrev pub multipliersGiven : ℕ → Told (List ℤ)
-multipliersGiven number = next (readDoodson number) (λ m. accepted (listed m))
-
--- a printed line's three results
-abbrev pub found : ℕ → ℤ → ℤ → Found
-found index first second = record { index = index; first = first; second = second }
-
--- what lent memory holds afterwards: the value told, or where the call is refused what it held
-abbrev pub toldOr : {A : Type 0} → A → Told A → A
-toldOr before (accepted a) = a
-toldOr before (refused number) = before
-
--- a call leaves what it tells: its answer, and the lent results as it returns
-pub record Leaves {A : Type 0} (told : Told A) (before : A) (number : ℕ) (after : A) : Type 0 where
-  pub answer : number ≡ toldNumber told
-  pub result : after ≡ toldOr before told
+multipliersGiven number = listedOf (readDoodson number)

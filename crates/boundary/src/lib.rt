@@ -1,21 +1,18 @@
 // The unit's calls for C: the functions of include/surfgimlet.h, each over the public call of its name.
 // Closed choices come as numbers; one that names no case is answered by 100, before anything else is looked at.
 ghost use mathlib.Core.Path.{_≡_};
+ghost use Rattle.crossing.specs.Choices.{unlisted};
 ghost use Rattle.doodson.specs.Doodson.{writeDoodson};
+ghost use Rattle.leaving.specs.Leaving.{found, Leaves};
 ghost use Rattle.lines.specs.Lines.{findLine};
 ghost use Rattle.refusals.specs.Outcome.{Gives};
-ghost use Rattle.boundary.specs.Calls.{versionNumber, stepOneGiven, stepTwoGiven, oceanGiven, moveGiven, multipliersGiven, unlisted, found, Leaves};
-use arguments::Multipliers;
+ghost use Rattle.boundary.specs.Calls.{versionNumber, stepOneGiven, stepTwoGiven, oceanGiven, moveGiven, multipliersGiven};
 use arguments::Phases;
 use bodies::Body;
 use choices::Frame;
 use choices::LoveModel;
 use choices::PermanentSystem;
 use crossing::GivenBody;
-use doodson::Read;
-use doodson::Written;
-use lines::Sought;
-use permanent::Moved;
 
 const NO_SUCH_CHOICE: u32 = 100;
 
@@ -109,13 +106,7 @@ pub extern "C" fn surfgimlet_move_c20(
         let from: PermanentSystem = crossing::system_of(from);
         let to: PermanentSystem = crossing::system_of(to);
         let love: LoveModel = crossing::love_of(love);
-        match surfgimlet::move_c20(c20, from, to, love) {
-            Moved::C20(new) => {
-                *moved = new;
-                0
-            }
-            Moved::Refused(r) => refusals::refusal_number(r),
-        }
+        leaving::leave_moved(surfgimlet::move_c20(c20, from, to, love), moved)
     } else {
         NO_SUCH_CHOICE
     }
@@ -126,13 +117,7 @@ pub extern "C" fn surfgimlet_move_c20(
 pub extern "C" fn surfgimlet_multipliers_of(number: u32, multipliers: &mut [i32; 6]) -> u32
     ensures { λ r. ⌜ Leaves (multipliersGiven number) (now (multipliers .entry)) r (now (multipliers .exit)) ⌝ }
 {
-    match surfgimlet::multipliers_of(number) {
-        Read::Multipliers(m) => {
-            *multipliers = [m.tau, m.s, m.h, m.p, m.np, m.ps];
-            0
-        }
-        Read::Refused(r) => refusals::refusal_number(r),
-    }
+    leaving::leave_multipliers(surfgimlet::multipliers_of(number), multipliers)
 }
 
 // The Doodson number of six multipliers. Refused as surfgimlet::number_of.
@@ -140,21 +125,10 @@ pub extern "C" fn surfgimlet_multipliers_of(number: u32, multipliers: &mut [i32;
 pub extern "C" fn surfgimlet_number_of(multipliers: &[i32; 6], number: &mut u32) -> u32
     ensures { λ r. ⌜ Leaves (writeDoodson (unlisted (now (multipliers .entry)))) (now (number .entry)) r (now (number .exit)) ⌝ }
 {
-    let m = Multipliers {
-        tau: multipliers[0],
-        s: multipliers[1],
-        h: multipliers[2],
-        p: multipliers[3],
-        np: multipliers[4],
-        ps: multipliers[5],
-    };
-    match surfgimlet::number_of(m) {
-        Written::Number(new) => {
-            *number = new;
-            0
-        }
-        Written::Refused(r) => refusals::refusal_number(r),
-    }
+    leaving::leave_number(
+        surfgimlet::number_of(crossing::multipliers_in(multipliers)),
+        number,
+    )
 }
 
 // A printed line by its Doodson number. Refused as surfgimlet::find_line.
@@ -167,17 +141,5 @@ pub extern "C" fn surfgimlet_find_line(
 ) -> u32
     ensures { λ r. ⌜ Leaves (findLine number) (found (now (index .entry)) (now (first .entry)) (now (second .entry))) r (found (now (index .exit)) (now (first .exit)) (now (second .exit))) ⌝ }
 {
-    match surfgimlet::find_line(number) {
-        Sought::Line {
-            index: i,
-            first: a,
-            second: b,
-        } => {
-            *index = i;
-            *first = a;
-            *second = b;
-            0
-        }
-        Sought::Refused(r) => refusals::refusal_number(r),
-    }
+    leaving::leave_line(surfgimlet::find_line(number), index, first, second)
 }

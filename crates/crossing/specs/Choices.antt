@@ -1,6 +1,9 @@
--- What crosses from C as numbers: the closed choices and the bodies.
+-- What crosses from C as numbers: the closed choices, the bodies and a list of multipliers.
 use mathlib.Core.List.{List, [], _∷_}
 use Prim.Native.Nat.{ℕ, zero, suc}
+use lib.IntN.{ℤ, pos}
+use lib.ListN.{getD}
+use Rattle.arguments.specs.declared.Multipliers.{Multipliers}
 use Rattle.bodies.specs.declared.Body.{Body}
 use Rattle.bodies.specs.declared.Place.{Place}
 use Rattle.bodies.specs.declared.Place.the-variants.{Rectangular, Directional}
@@ -35,3 +38,14 @@ bodyAt b place = record { ratio = b .ratio; place = place }
 
 abbrev pub bodyOf : GivenBody → Told Body
 bodyOf b = chosen (bodyAt b (Rectangular (b .x) (b .y) (b .z) (b .r)) ∷ bodyAt b (Directional (b .x) (b .y) (b .z) (b .r)) ∷ []) (b .kind)
+
+-- six multipliers in a list, in the order of the arguments
+abbrev pub unlisted : List ℤ → Multipliers
+unlisted l = record {
+  tau = getD l 0 (pos 0);
+  s = getD l 1 (pos 0);
+  h = getD l 2 (pos 0);
+  p = getD l 3 (pos 0);
+  np = getD l 4 (pos 0);
+  ps = getD l 5 (pos 0);
+}

@@ -1,8 +1,9 @@
-// What crosses from C as numbers: the closed choices and the bodies. Each has a test, whether the number names a case, and a
+// What crosses from C as numbers: the closed choices, the bodies and a list of multipliers. A choice has a test, whether the number names a case, and a
 // conversion, total so that it can stand behind the test; include/surfgimlet.h has the numbers.
 ghost use mathlib.Core.Path.{_≡_};
-ghost use Rattle.crossing.specs.Choices.{loveModel, frameOf, permanentSystem, bodyOf};
+ghost use Rattle.crossing.specs.Choices.{loveModel, frameOf, permanentSystem, bodyOf, unlisted};
 ghost use Rattle.crossing.specs.Inner.{names, Converts};
+use arguments::Multipliers;
 use bodies::Body;
 use bodies::Place;
 use choices::Frame;
@@ -85,5 +86,19 @@ pub fn body_of(body: GivenBody) -> Body
             ratio: body.ratio,
             place: Place::Directional(body.x, body.y, body.z, body.r),
         },
+    }
+}
+
+// Six multipliers in a list, in the order of the arguments.
+pub fn multipliers_in(list: &[i32; 6]) -> Multipliers
+    ensures { λ r. ⌜ r ≡ unlisted (now (list .entry)) ⌝ }
+{
+    Multipliers {
+        tau: list[0],
+        s: list[1],
+        h: list[2],
+        p: list[3],
+        np: list[4],
+        ps: list[5],
     }
 }

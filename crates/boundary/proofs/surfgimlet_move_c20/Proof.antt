@@ -1,13 +1,11 @@
 -- Systems and model, where each is named, go on to the call, and its C20 goes out; a number that names none is answered at once.
 use borrow.Author.Needs.{needs}
 use mathlib.Core.Bool.{_&&_}
-use mathlib.Core.Path.{_≡_, refl, sym, ap, _∙_}
+use mathlib.Core.Path.{_≡_, refl, sym, _∙_}
 use mir.Facts.{toZ-ofZ}
-use mir.Syntax.{w64}
 use Rattle.crossing.specs.Choices.{loveModel, permanentSystem}
 use Rattle.crossing.specs.Inner.{names}
 use Rattle.permanent.specs.Systems.{tells}
-use Rattle.whole.proofs.Machine.{back}
 use Rattle.boundary.specs.Calls.{moveGiven}
 use Rattle.boundary.proofs.Given.{move-named, move-missing}
 use Rattle.boundary.proofs.surfgimlet_move_c20.Statement.{statement}
@@ -34,14 +32,8 @@ love-of-requires c κs = search needs
 move-c20-requires : tie.Need-move-c20-requires
 move-c20-requires c κs = search needs
 
-enum-known-new : tie.Need-enum-known-new
-enum-known-new c = search needs
-
-enum-known-r : tie.Need-enum-known-r
-enum-known-r c = search needs
-
-refusal-number-requires : tie.Need-refusal-number-requires
-refusal-number-requires c κs = search needs
+leave-moved-requires : tie.Need-leave-moved-requires
+leave-moved-requires c κs = search needs
 
 -- what was tested is whether each is named
 named : (c : tie.After-is-love) → (c .before .before .is-system .result && c .before .is-system2 .result && c .is-love .result) ≡ (names (permanentSystem (c .before .before .before .args .from)) && names (permanentSystem (c .before .before .before .args .to)) && names (loveModel (c .before .before .before .args .love)))
@@ -63,18 +55,10 @@ module _ (c : tie.After-move-c20) where
       ∙ sym (rw (toZ-ofZ (start .fits .c20)) at (c .move-c20 .ensures))
 
 returns : tie.Need-returns
-returns c =
-    let m = c .before .before .before in
-    let ok = rw (c .before .new .given .1) at (m .move-c20 .ok) in
-    rw (moved-is m ∙ ap tells (c .before .new .given .1), back w64 _ (ok .1 .1 .1 .1 .0 .1)) (record { answer = refl; result = refl })
+returns c = rw (moved-is (c .before .before)) (c .leave-moved .ensures)
 
 returns-2 : tie.Need-returns-2
-returns-2 c =
-    let r = c .before .before in
-    rw (moved-is (r .before .before) ∙ ap tells (r .r .given .1), c .refusal-number .ensures) (record { answer = refl; result = refl })
-
-returns-3 : tie.Need-returns-3
-returns-3 c = rw (move-missing _ _ _ _ (sym (named (c .before)) ∙ c .if1 .left)) (record { answer = refl; result = refl })
+returns-2 c = rw (move-missing _ _ _ _ (sym (named (c .before)) ∙ c .if1 .left)) (record { answer = refl; result = refl })
 
 pub surfgimlet-move-c20-spec : {M : Type 1} → statement M
 surfgimlet-move-c20-spec =
@@ -87,9 +71,6 @@ surfgimlet-move-c20-spec =
     system-of-requires-2
     love-of-requires
     move-c20-requires
-    enum-known-new
-    enum-known-r
-    refusal-number-requires
+    leave-moved-requires
     returns
-    returns-2
-    returns-3)
+    returns-2)
