@@ -27,7 +27,6 @@ fn is_valid(sheet: &[u8], l: Layout) -> bool
     sheet_lines::are_lines(sheet, l)
         & sheet_lines::are_rows(sheet, l)
         & sheet_places::are_places(sheet, l)
-        & sheet_places::are_ascending(sheet, l)
 }
 
 // Whether the field's degree reaches every place: they ascend, so that the last has the highest degree.

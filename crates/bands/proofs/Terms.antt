@@ -16,7 +16,6 @@ use Rattle.bands.specs.declared.Band.the-variants.{Diurnal, LongPeriod, 
 use Rattle.bands.specs.declared.Line.{Line}
 use Rattle.bands.specs.declared.Sums.{Sums}
 use Rattle.bands.specs.Bands.{Coefficient, C20, C21, S21, C22, S22, ofDiurnal, ofLongPeriod, ofSemidiurnal, ofBand, taken, term, plusLine}
-use Rattle.bands.specs.Inner.{Room}
 
 -- what the machine reads of a number that fits, and of its negative
 pub read : (z : ℤ) → natAbs z ≤ 2 ^ 62 → toZ w64 (ofZ w64 z) ≡ z
@@ -31,14 +30,14 @@ minus-read z h = toZ-ofZ (minus-fits z h) ∙ ap (λ (x : ℤ). pos 0 -ℤ x) (r
 minus-same : (z : ℤ) → natAbs (negℤ z) ≡ natAbs z
 minus-same z = omega (arith, abs z, abs (negℤ z), up-neg z, dn-neg z)
 
-pub minus-small : (z : ℤ) → natAbs z ≤ 2 ^ 24 → natAbs (negℤ z) ≤ 2 ^ 24
+minus-small : (z : ℤ) → natAbs z ≤ 2 ^ 24 → natAbs (negℤ z) ≤ 2 ^ 24
 minus-small z h = omega (arith, minus-same z)
+
+pub minus-held : (z : ℤ) → natAbs z ≤ 2 ^ 24 → natAbs (toZ w64 (ofZ w64 (pos 0 -ℤ toZ w64 (ofZ w64 z)))) ≤ 2 ^ 24
+minus-held z h = rw (minus-read z h) (minus-small z h)
 
 -- a call of `plus_wave`, its arguments as the machine reads them
 module _ {t a c b s t′ a′ c′ b′ s′ : ℤ} (T : t ≡ t′) (A : a ≡ a′) (C : c ≡ c′) (B : b ≡ b′) (S : s ≡ s′) where
-  pub room : Room t′ a′ c′ b′ s′ → Room t a c b s
-  room h = rw (T, A, C, B, S) h
-
   pub grown : {r : ℤ} → r ≡ t +ℤ (a *ℤ c +ℤ b *ℤ s) → r ≡ t′ +ℤ (a′ *ℤ c′ +ℤ b′ *ℤ s′)
   grown e = e ∙ rw (T, A, C, B, S)
 

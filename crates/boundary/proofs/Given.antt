@@ -13,12 +13,10 @@ use Rattle.crossing.specs.declared.GivenBody.{GivenBody}
 use Rattle.crossing.specs.Choices.{loveModel, frameOf, permanentSystem, bodyOf}
 use Rattle.crossing.specs.Inner.{names, Converts}
 use Rattle.crossing.proofs.Choices.{hundred, one-named, one-missing, three-named, three-missing}
-use Rattle.ocean.specs.Ocean.{oceanTide}
 use Rattle.permanent.specs.Systems.{movedC20}
 use Rattle.refusals.specs.Outcome.{Outcome}
 use Rattle.refusals.specs.Told.Told.{accepted, refused}
-use Rattle.step_one.specs.StepOne.{stepOne}
-use Rattle.surfgimlet.specs.Calls.{stepTwo}
+use Rattle.surfgimlet.specs.Calls.{stepOne, stepTwo, oceanTide}
 use Rattle.boundary.specs.Calls.{outcomeOf, stepOneGiven, stepTwoGiven, oceanGiven, moveGiven}
 
 module _ (n : ℕ) (c s : List ℤ) where

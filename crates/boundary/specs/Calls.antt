@@ -8,10 +8,8 @@ use Rattle.refusals.specs.Told.Told.{accepted, refused}
 use Rattle.doodson.specs.Doodson.{readDoodson}
 use Rattle.refusals.specs.Outcome.{Outcome}
 use Rattle.leaving.specs.Leaving.{listedOf}
-use Rattle.ocean.specs.Ocean.{oceanTide}
 use Rattle.permanent.specs.Systems.{movedC20}
-use Rattle.step_one.specs.StepOne.{stepOne}
-use Rattle.surfgimlet.specs.Calls.{stepTwo}
+use Rattle.surfgimlet.specs.Calls.{stepOne, stepTwo, oceanTide}
 use Rattle.crossing.specs.declared.GivenBody.{GivenBody}
 use Rattle.crossing.specs.Choices.{loveModel, frameOf, permanentSystem, bodyOf}
 

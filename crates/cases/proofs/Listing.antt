@@ -8,8 +8,7 @@ use Rattle.choices.specs.declared.LoveModel.the-variants.{Elastic, Anelastic}
 use Rattle.doodson.specs.Doodson.{multipliersIn}
 use Rattle.bands.specs.Bands.{ofDiurnal, ofLongPeriod, ofSemidiurnal, ofBand, term}
 use Rattle.lines.specs.Lines.{diurnal, longPeriod, semidiurnal, printed, lineAt, multipliersAt, bandAt, inModel, printedLine}
-use Rattle.listing.specs.Listing.{columns, modelText, modelsText, listingOf}
-use Rattle.phase_bytes.specs.PhaseBytes.{phaseAt, phasesOf}
+use Rattle.listing.specs.Listing.{phasesOf, columns, modelText, modelsText, listingOf}
 use Rattle.step_two.specs.StepTwo.{sumOf, correctionOf, correction, corrections}
 use Rattle.text.specs.Text.{ascii, digits, decimal, number}
 use Rattle.wave.specs.Wave.{sin, cos, further, eighths, signed, part, folded, eighth-sine, eighth-cosine, steps, step, square, angle}
@@ -27,5 +26,5 @@ unfolding modulo phase multipliersIn diurnal longPeriod semidiurnal printed line
 worked = record { elastic = refl; anelastic = refl; quarter-turn = refl }
 
 pub zeros-listed : listingOf (replicate 24 0) ≡ ascii "model C20 C21 S21 C22 S22\nelastic 0 0 450700 -1500 0\nanelastic 10100 0 450100 -1500 0\n"
-unfolding ascii phaseAt phasesOf digits decimal number columns modelText modelsText listingOf
+unfolding ascii phasesOf digits decimal number columns modelText modelsText listingOf
 zeros-listed = rw (worked .elastic, worked .anelastic)

@@ -8,13 +8,14 @@ use Rattle.arguments.specs.Phase.{modulo, phase}
 use Rattle.choices.specs.declared.Frame.{Frame}
 use Rattle.choices.specs.declared.Frame.the-variants.{CentreOfFigure, CentreOfMass}
 use Rattle.field.specs.Field.{size, place, shapedBy, everyInRange, fieldRefusal}
-use Rattle.field.specs.Added.{corrected}
+use Rattle.field.specs.Added.{corrected, added}
 use Rattle.refusals.specs.Outcome.{firstOf, unlessRefused}
-use Rattle.ocean.specs.Ocean.{dC, dS, oceanRefusal, oceanTide}
-use Rattle.places.specs.Places.{placeSum, skipped, unlessSkipped, correction, added}
+use Rattle.ocean.specs.Ocean.{dC, dS}
+use Rattle.places.specs.Places.{placeSum, skipped, unlessSkipped, correction}
 use Rattle.sheet.specs.Accepted.{shaped, lineValid, rowValid, countsValid, sZero, placeValid, precedes, ascending, valid, reached, ownRefusal, sheetRefusal}
 use Rattle.sheet.specs.Read.{multipliers}
 use Rattle.sheet.specs.Sheet.{lineCount, tideCount, placeCount, multiplier, admittance, degree, order, coefficient}
+use Rattle.surfgimlet.specs.Calls.{oceanRefusal, oceanTide}
 use Rattle.tides.specs.Tides.{lineSum, factor, fcos, fsin}
 use Rattle.wave.specs.Wave.{folded, part, signed, eighths, further, angle, square, step, steps, eighth-sine, eighth-cosine, sin, cos}
 use Rattle.whole.specs.Nearest.{nearest}

@@ -16,11 +16,11 @@ use Rattle.count.specs.Count.{count}
 use Rattle.doodson.specs.Doodson.{readDoodson, writeDoodson}
 use Rattle.refusals.specs.Outcome.{Outcome}
 use Rattle.listing.specs.Listing.{listingOf}
-use Rattle.ocean.specs.Ocean.{oceanTide}
 use Rattle.permanent.specs.Systems.{movedC20}
 use Rattle.sheet.specs.Accepted.{sheetRefusal}
 use Rattle.step_two.specs.declared.Corrections.{Corrections}
 use Rattle.step_two.specs.StepTwo.{corrections}
+use Rattle.surfgimlet.specs.Calls.{oceanTide}
 use Rattle.text.specs.Text.{ascii}
 use Rattle.wave.specs.Wave.{sin}
 

@@ -11,13 +11,12 @@ use lib.ListN.{length, drop, length-append}
 use lib.Seq.{sets-eq}
 use Rattle.arguments.specs.declared.Phases.{Phases}
 use Rattle.choices.specs.declared.LoveModel.the-variants.{Elastic, Anelastic}
-use Rattle.phase_bytes.specs.PhaseBytes.{phasesOf}
 use Rattle.step_two.specs.declared.Corrections.{Corrections}
 use Rattle.step_two.specs.Inner.{Small}
 use Rattle.step_two.proofs.Sizes.{corrections-small}
 use Rattle.text.specs.Inner.{Put}
 use Rattle.text.specs.Text.{ascii}
-use Rattle.listing.specs.Listing.{modelText, modelsText, listingOf, Listed}
+use Rattle.listing.specs.Listing.{phasesOf, modelText, modelsText, listingOf, Listed}
 use Rattle.listing.proofs.Columns.{columns-most}
 
 -- a name, five columns of 21 bytes at most, and a line feed

@@ -8,10 +8,21 @@ use lib.IntN.{ℤ}
 use lib.ListN.{length, drop}
 use Rattle.arguments.specs.declared.Phases.{Phases}
 use Rattle.choices.specs.declared.LoveModel.the-variants.{Elastic, Anelastic}
-use Rattle.phase_bytes.specs.PhaseBytes.{phasesOf}
 use Rattle.step_two.specs.declared.Corrections.{Corrections}
 use Rattle.step_two.specs.StepTwo.{corrections}
 use Rattle.text.specs.Text.{ascii, number}
+use Rattle.words.specs.Words.{wordAt}
+
+-- "24 bytes, six little-endian phases", one after the other
+unfoldable pub phasesOf : List ℕ → Phases
+phasesOf bytes = record {
+  tau = wordAt bytes 0;
+  s = wordAt bytes 4;
+  h = wordAt bytes 8;
+  p = wordAt bytes 12;
+  np = wordAt bytes 16;
+  ps = wordAt bytes 20;
+}
 
 -- "counts per column": each after a space
 unfoldable pub columns : List ℤ → List ℕ

@@ -1,8 +1,9 @@
 // The listing of step two's corrections (document 01, "Cases"), as text in a lent buffer.
+ghost use mathlib.Core.Path.{_≡_};
 ghost use Prim.Native.Nat.{_+_, _*_, _≤_};
 ghost use lib.ListN.{length};
 ghost use Rattle.text.specs.Inner.{Put};
-ghost use Rattle.listing.specs.Listing.{columns, modelText, modelsText, Listed};
+ghost use Rattle.listing.specs.Listing.{phasesOf, columns, modelText, modelsText, Listed};
 use arguments::Phases;
 use choices::LoveModel;
 use step_two::Corrections;
@@ -52,6 +53,21 @@ fn put_models(out: &mut [u8], phases: Phases) -> usize
     )
 }
 
+// The six phases of the first 24 bytes.
+fn phases_of(input: &[u8]) -> Phases
+    requires { ⌜ 24 ≤ length (now input) ⌝ }
+    ensures { λ r. ⌜ r ≡ phasesOf (now (input .entry)) ⌝ }
+{
+    Phases {
+        tau: words::word_at(input, 0),
+        s: words::word_at(input, 4),
+        h: words::word_at(input, 8),
+        p: words::word_at(input, 12),
+        np: words::word_at(input, 16),
+        ps: words::word_at(input, 20),
+    }
+}
+
 // Given: the program's input, and a buffer that has room for every listing.
 // Done: the text stands at the buffer's start, and every other byte stays.
 // Answered: the text's length.
@@ -59,7 +75,7 @@ pub fn listing(input: &[u8], out: &mut [u8; 256]) -> usize
     ensures { λ r. ⌜ Listed (now (input .entry)) (now (out .entry)) (now (out .exit)) r ⌝ }
 {
     if input.len() == 24 {
-        put_models(out, phase_bytes::phases_of(input))
+        put_models(out, phases_of(input))
     } else {
         text::put_word(out, 0, b"refused\n")
     }

@@ -17,7 +17,7 @@ use Rattle.words.proofs.Signs.{raised-small}
 use Rattle.sheet.specs.Sheet.{tideCount, placeStart, coefficient}
 use Rattle.sheet.specs.Accepted.{countsValid}
 use Rattle.sheet.proofs.Flat.{all-same, all-rows}
-use Rattle.sheet_places.specs.Joined.{validAt, Joined}
+use Rattle.sheet_places.specs.Inner.{validAt, Joined}
 
 module _ (s : List ℕ) (at : ℕ) where
   pub joined-none : (any : ℕ) → Joined s at 0 any

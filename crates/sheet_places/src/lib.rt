@@ -1,12 +1,13 @@
 // The places of a model sheet, tested (document 01, refusal 8).
+ghost use mathlib.Core.Bool.{_&&_};
 ghost use mathlib.Core.Path.{_≡_};
 ghost use Prim.Native.Nat.{_+_, _*_, _≤_, _<_};
 ghost use lib.ListN.{length};
 ghost use Rattle.whole.specs.Sum.{allTo};
 ghost use Rattle.sheet.specs.Sheet.{tideCount, placeCount};
-ghost use Rattle.sheet.specs.Accepted.{countsValid, sZero, placeValid, precedes, ascending};
+ghost use Rattle.sheet.specs.Accepted.{countsValid, sZero, placeValid, ascending};
 ghost use Rattle.sheet.specs.Read.{Whole};
-ghost use Rattle.sheet_places.specs.Joined.{Joined, validAt};
+ghost use Rattle.sheet_places.specs.Inner.{validAt, Joined, afterLast};
 use sheet::Layout;
 
 // The bits of all the words from a place on, 2^24 added to each: below 2^25, no word is out of range.
@@ -81,41 +82,32 @@ fn is_place(sheet: &[u8], l: Layout, j: usize) -> bool
     }
 }
 
+// Whether place j is the first, or comes after the place before it by degree, then order.
+fn is_after_last(sheet: &[u8], l: Layout, j: usize) -> bool
+    requires { ⌜ Whole (now sheet) l × (j < placeCount (now sheet)) ⌝ }
+    ensures { λ r. ⌜ r ≡ afterLast (now (sheet .entry)) j ⌝ }
+{
+    if 0 < j {
+        let last_degree = sheet::degree_at(sheet, l, j - 1);
+        let last_order = sheet::order_at(sheet, l, j - 1);
+        let degree = sheet::degree_at(sheet, l, j);
+        let order = sheet::order_at(sheet, l, j);
+        (last_degree < degree) | (last_degree == degree) & (last_order < order)
+    } else {
+        true
+    }
+}
+
+// Whether every place is valid, and they ascend.
 pub fn are_places(sheet: &[u8], l: Layout) -> bool
     requires { ⌜ Whole (now sheet) l ⌝ }
-    ensures { λ r. ⌜ r ≡ allTo (placeValid (now (sheet .entry))) (placeCount (now (sheet .entry))) ⌝ }
+    ensures { λ r. ⌜ r ≡ (allTo (placeValid (now (sheet .entry))) (placeCount (now (sheet .entry))) && ascending (now (sheet .entry))) ⌝ }
 {
     let places = l.places;
     let mut good = true;
     let mut j: usize = 0;
     while j < places {
-        good = good & is_place(sheet, l, j);
-        j += 1;
-    }
-    good
-}
-
-// Whether place j comes before the place after it, by degree, then order.
-fn is_before_next(sheet: &[u8], l: Layout, j: usize) -> bool
-    requires { ⌜ Whole (now sheet) l × (j + 1 < placeCount (now sheet)) ⌝ }
-    ensures { λ r. ⌜ r ≡ precedes (now (sheet .entry)) j (j + 1) ⌝ }
-{
-    let degree = sheet::degree_at(sheet, l, j);
-    let order = sheet::order_at(sheet, l, j);
-    let next_degree = sheet::degree_at(sheet, l, j + 1);
-    let next_order = sheet::order_at(sheet, l, j + 1);
-    (degree < next_degree) | (degree == next_degree) & (order < next_order)
-}
-
-pub fn are_ascending(sheet: &[u8], l: Layout) -> bool
-    requires { ⌜ Whole (now sheet) l ⌝ }
-    ensures { λ r. ⌜ r ≡ ascending (now (sheet .entry)) ⌝ }
-{
-    let places = l.places;
-    let mut good = true;
-    let mut j: usize = 0;
-    while j + 1 < places {
-        good = good & is_before_next(sheet, l, j);
+        good = good & (is_place(sheet, l, j) & is_after_last(sheet, l, j));
         j += 1;
     }
     good

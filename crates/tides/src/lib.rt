@@ -33,17 +33,18 @@ fn raised(x: i64, by: u32) -> u32
 // Each line's cosine and sine, raised by 2^30.
 fn fill_waves(
     sheet: &[u8],
-    lines: usize,
+    l: Layout,
     phases: Phases,
     cosines: &mut [u32; 128],
     sines: &mut [u32; 128],
 )
-    requires { ⌜ (lines ≤ 128) × ((length (now cosines) ≡ 128) × (length (now sines) ≡ 128)) ⌝ }
-    ensures { λ _. ⌜ Waved (now (sheet .entry)) phases lines (now (cosines .exit)) (now (sines .exit)) ⌝ }
+    requires { ⌜ Passed (now sheet) l × ((length (now cosines) ≡ 128) × (length (now sines) ≡ 128)) ⌝ }
+    ensures { λ _. ⌜ Waved (now (sheet .entry)) phases (lineCount (now (sheet .entry))) (now (cosines .exit)) (now (sines .exit)) ⌝ }
 {
+    let lines = l.lines;
     let mut f: usize = 0;
     while f < lines {
-        let phase = arguments::phase_of(sheet::multipliers_at(sheet, f), phases);
+        let phase = arguments::phase_of(sheet::multipliers_at(sheet, l, f), phases);
         let wave = wave::wave_of(phase);
         cosines[f] = raised(wave.cosine, WAVE);
         sines[f] = raised(wave.sine, WAVE);
@@ -143,6 +144,6 @@ pub fn fill_factors(
 {
     let mut cosines = [0u32; 128];
     let mut sines = [0u32; 128];
-    fill_waves(sheet, l.lines, phases, &mut cosines, &mut sines);
+    fill_waves(sheet, l, phases, &mut cosines, &mut sines);
     fill_rows(sheet, l, &cosines, &sines, fcos, fsin);
 }

@@ -1,14 +1,12 @@
 -- Each band's terms are the definition's, and what a band does not name stays.
 use borrow.Author.Needs.{needs}
 use mathlib.Core.Path.{_≡_}
-use Prim.Native.Nat.{_^_, _≤_}
 use native.Mathlib.Omega.{arith}
-use lib.IntN.{ℤ, pos, negℤ, natAbs, _-ℤ_}
+use lib.IntN.{ℤ, pos, negℤ, _-ℤ_}
 use mir.Syntax.{w64}
 use mir.Val.{toZ, ofZ}
 use Rattle.bands.specs.declared.Sums.{Sums}
-use Rattle.bands.specs.Inner.{Room}
-use Rattle.bands.proofs.Terms.{read, minus-fits, minus-read, minus-small, room, grown, diurnal, long-period, semidiurnal}
+use Rattle.bands.proofs.Terms.{read, minus-fits, minus-read, minus-held, grown, diurnal, long-period, semidiurnal}
 use Rattle.bands.proofs.with_line.Statement.{statement}
 use Rattle.bands.proofs.with_line.Tie as tie
 
@@ -56,16 +54,8 @@ module _ (c : tie.Start) where
   sine-read : held (c .args .sine) ≡ c .args .sine
   sine-read = read (c .args .sine) (omega (arith, c .pre .sine-small))
 
-  -- room for a term, its amplitudes a and b
-  for-term : (t a b : ℤ) → natAbs t ≤ 2 ^ 62 → natAbs a ≤ 2 ^ 24 → natAbs b ≤ 2 ^ 24 → Room t a (c .args .cosine) b (c .args .sine)
-  for-term t a b ht ha hb = record { sum-small = ht; a-small = ha; cosine-small = c .pre .cosine-small; b-small = hb; sine-small = c .pre .sine-small }
-
 plus-wave-requires-2 : tie.Need-plus-wave-requires-2
-plus-wave-requires-2 c κs =
-    let s = c .before .before .before .before .before .before .before in
-    let p = s .pre in
-    room (read (sums s .s21) (p .s21-small)) (ip-read s) (cosine-read s) (minus-op-read s) (sine-read s)
-    (for-term s (sums s .s21) (ip s) (negℤ (op s)) (p .s21-small) (p .ip-small) (minus-small (op s) (p .op-small)))
+plus-wave-requires-2 c κs = search (needs, minus-held)
 
 enum-told-2 : tie.Need-enum-told-2
 enum-told-2 c = search needs
@@ -77,18 +67,10 @@ enum-told-3 : tie.Need-enum-told-3
 enum-told-3 c = search needs
 
 plus-wave-requires-4 : tie.Need-plus-wave-requires-4
-plus-wave-requires-4 c κs =
-    let s = c .before .before .before .before .before in
-    let p = s .pre in
-    room (read (sums s .c22) (p .c22-small)) (ip-read s) (cosine-read s) (minus-op-read s) (sine-read s)
-    (for-term s (sums s .c22) (ip s) (negℤ (op s)) (p .c22-small) (p .ip-small) (minus-small (op s) (p .op-small)))
+plus-wave-requires-4 c κs = search (needs, minus-held)
 
 plus-wave-requires-5 : tie.Need-plus-wave-requires-5
-plus-wave-requires-5 c κs =
-    let s = c .before .before .before .before .before .before .before in
-    let p = s .pre in
-    room (read (sums s .s22) (p .s22-small)) (minus-op-read s) (cosine-read s) (minus-ip-read s) (sine-read s)
-    (for-term s (sums s .s22) (negℤ (op s)) (negℤ (ip s)) (p .s22-small) (minus-small (op s) (p .op-small)) (minus-small (ip s) (p .ip-small)))
+plus-wave-requires-5 c κs = search (needs, minus-held)
 
 returns : tie.Need-returns
 returns c =

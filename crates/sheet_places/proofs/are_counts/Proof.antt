@@ -9,7 +9,7 @@ use Rattle.sheet.specs.Sheet.{tideCount}
 use Rattle.sheet.specs.Accepted.{countsValid}
 use Rattle.sheet.proofs.Flat.{all-of}
 use Rattle.sheet.proofs.Offsets.{place-in}
-use Rattle.sheet_places.specs.Joined.{validAt}
+use Rattle.sheet_places.specs.Inner.{validAt}
 use Rattle.sheet_places.proofs.Joining.{by-tides}
 use Rattle.sheet_places.proofs.are_counts.Statement.{statement}
 use Rattle.sheet_places.proofs.are_counts.Tie as tie

@@ -8,7 +8,7 @@ use Rattle.limits.specs.Limits.{isCoefficient}
 use Rattle.whole.specs.Sum.{allTo}
 use Rattle.whole.proofs.Counted.{all-none, all-more}
 use Rattle.sheet.proofs.Signs.{told}
-use Rattle.sheet_places.specs.Joined.{validAt}
+use Rattle.sheet_places.specs.Inner.{validAt}
 use Rattle.sheet_places.proofs.are_each.Statement.{statement}
 use Rattle.sheet_places.proofs.are_each.Tie as tie
 

@@ -3,7 +3,7 @@ use Prim.Native.Nat.{_-_, _≤_}
 use mathlib.Core.Path.{_≡_}
 use native.Mathlib.Omega.{arith}
 use borrow.Author.Needs.{needs}
-use Rattle.sheet_places.specs.Joined.{Joined}
+use Rattle.sheet_places.specs.Inner.{Joined}
 use Rattle.sheet_places.proofs.Joining.{joined-none, joined-more}
 use Rattle.sheet_places.proofs.joined.Statement.{statement}
 use Rattle.sheet_places.proofs.joined.Tie as tie
