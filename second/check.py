@@ -4,19 +4,20 @@ import struct
 from collections import Counter
 from fractions import Fraction
 from itertools import product
-from math import asin, atan2, cos, factorial, hypot, inf, ldexp, nan, nextafter, sin, sqrt
-from random import Random
+from math import atan2, cos, factorial, hypot, inf, nan, nextafter, sin, sqrt
 
+import given
+import telling
 import tides as t
+from chance import Chance
+from given import NONE, U32, write_sheet
 
-rng = Random(19960621)
+chance = Chance(19960621)
 counts = Counter()
 worst = Counter()           # largest error seen, per kind
-NONE = (0,) * 6
 LOVES = (t.ELASTIC, t.ANELASTIC)
 FRAMES = (t.FIGURE, t.MASS)
 SYSTEMS = (t.TIDE_FREE, t.ZERO, t.MEAN)
-U32 = (1 << 32) - 1
 
 
 def expect(kind, got, wanted):
@@ -29,51 +30,15 @@ def within(kind, error, bound, strict=False):
     assert error < bound or (not strict and error == bound), (kind, float(error))
 
 
-def random_phase():
-    return rng.choice((rng.getrandbits(32), rng.getrandbits(32), (rng.randrange(8) << 29) + rng.randint(-3, 3))) & U32
-
-
 def random_phases():
-    return tuple(random_phase() for _ in range(6))
+    return given.phases(chance)
 
 
 def random_field(N):
-    edge = 1 << 60
-    entry = lambda: rng.choice((0, edge, -edge, rng.randint(-edge, edge), rng.randint(-10**9, 10**9)))
-    return [entry() for _ in range(t.size(N))], [entry() for _ in range(t.size(N))]
+    return [given.entry(chance) for _ in range(t.size(N))], [given.entry(chance) for _ in range(t.size(N))]
 
 
 # --- Sheets ---
-
-def write_sheet(lines, rows, places):
-    """The bytes of a sheet; nothing is tested, so faults can be written too."""
-    data = struct.pack('<H', len(lines)) + b''.join(struct.pack('<6b', *line) for line in lines)
-    data += struct.pack('<H', len(rows)) + b''.join(struct.pack(f'<{len(row)}i', *row) for row in rows)
-    data += struct.pack('<H', len(places))
-    for n, m, quads in places:
-        data += bytes((n, m)) + b''.join(struct.pack('<4i', *quad) for quad in quads)
-    return data
-
-
-def random_row(n_lines):
-    """Admittances whose absolute values add to the whole 4,000,000, or to less."""
-    cuts = sorted(rng.randint(0, 4_000_000) for _ in range(n_lines - 1))
-    shares = [b - a for a, b in zip([0, *cuts], [*cuts, rng.choice((4_000_000, rng.randint(max(cuts, default=0), 4_000_000)))])]
-    return [rng.choice((1, -1)) * share for share in shares]
-
-
-def random_sheet(n_lines, n_tides, n_places, top=12):
-    lines = [tuple(rng.randint(-13, 13) for _ in range(6)) for _ in range(n_lines)]
-    rows = [random_row(n_lines) for _ in range(n_tides)]
-    every = [(n, m) for n in range(1, top + 1) for m in range(n + 1)]
-    places = []
-    for n, m in sorted(rng.sample(every, min(n_places, len(every)))):
-        edge = rng.choice((1 << 24, 1000, 1))
-        count = lambda: rng.choice((edge, -edge, rng.randint(-edge, edge)))
-        quads = [[count() for _ in range(4)] for _ in range(n_tides)]
-        places.append((n, m, [(a, b, c, d) if m else (a, 0, c, 0) for a, b, c, d in quads]))
-    return lines, rows, places
-
 
 def check_ocean(sheet, phases, frame, N=60):
     """One sheet on one field: every entry after the call, and each correction against its exact sum."""
@@ -103,7 +68,7 @@ def hard_sheet(phase):
     signs = [1 if error >= 0 else -1 for error in errors]
     rows, quads = [], []
     for _ in range(32):
-        tries = [rng.randint(3_999_000, 4_000_000) for _ in range(40)]
+        tries = [chance.between(3_999_000, 4_000_000) for _ in range(40)]
         drift = lambda a: sum(s * (t.nearest(a * f(phase), t.MILLION) - Fraction(a, t.MILLION) * t.UNIT * g(phase))
                               for s, f, g in zip(signs, (t.cosine, t.sine), (t.exact_cosine, t.exact_sine)))
         a = max(tries, key=drift)
@@ -151,10 +116,11 @@ def cases():
 # --- Doodson numbers and lines ---
 
 def doodson():
-    for number in range(1_000_000):
+    some = range(0, 1_000_000, 7)                                               # every digit in every place
+    for number in some:
         refusal, multipliers = t.doodson_read(number)
         assert refusal == 0 and t.doodson_write(multipliers) == (0, number)
-    counts['doodson'] += 1_000_000
+    counts['doodson'] += len(some)
     for place, (low, high) in enumerate([(0, 9)] + [(-5, 4)] * 5):
         for value in (low - 1, high + 1, -128, 127, -2**31, 2**31 - 1):
             expect('doodson', t.doodson_write([value if i == place else 0 for i in range(6)]), (10, None))
@@ -165,8 +131,10 @@ def doodson():
     for band, first in ((t.DIURNAL, 1), (t.LONG_PERIOD, 0), (t.SEMIDIURNAL, 2)):
         for number, _, _ in band:
             expect('lines', t.doodson_read(number)[1][0], first)
-    found = [number for number in range(1_000_000) if t.find_line(number)[0] == 0]
-    expect('lines', found, sorted(number for number, _, _ in t.PRINTED))
+    printed = [number for number, _, _ in t.PRINTED]
+    expect('lines', len(set(printed)), 49)
+    for number in some:
+        assert t.find_line(number) == (11, None) or number in printed
     for i, (number, one, two) in enumerate(t.PRINTED):
         expect('lines', t.find_line(number), (0, (i, one, two)))
     expect('lines', [t.find_line(n) for n in (165555, 55565, 255555)], [(0, (15, 4720, 4710)), (0, (26, 166, -67)), (0, (48, -12, -12))])
@@ -179,7 +147,7 @@ def sines():
     """Answers the phase with the largest error of sine and cosine together, for the hard sheets."""
     edges = [((k << 29) + d) & U32 for k in range(8) for d in (-1, 0, 1)]
     hardest, most = 0, 0
-    for phase in edges + [rng.getrandbits(32) for _ in range(20_000)]:
+    for phase in edges + [chance.below(1 << 32) for _ in range(20_000)]:
         both = 0
         for value, exact in ((t.sine(phase), t.exact_sine_numerator(phase)), (t.cosine(phase), t.exact_cosine_numerator(phase))):
             assert -t.UNIT <= value <= t.UNIT
@@ -200,6 +168,34 @@ def sines():
     return hardest
 
 
+def recipe(by_cosine, a, numbers):
+    """S(a) or C(a) with the recipe's numbers as they are given: the angle's factor, the halves that x, y and g are rounded with, the 2 of the
+    last rounding, then each divisor with the half that its step is rounded with."""
+    factor, x_half, y_half, g_half, two, *steps = numbers
+    x = (a * factor + x_half) >> 31
+    y = (x * x + y_half) >> 32
+    h = 1 << 32
+    for d, half in zip(steps[::2], steps[1::2]):
+        h = (1 << 32) - (y * h + half * d) // (d << 32)
+    return ((h if by_cosine else (x * h + g_half) >> 32) + two) // 4
+
+
+def wave_slips():
+    """The recipe told from each with one number changed, by a stored phase: factor, divisors and the 2 by one, halves dropped or nearly doubled."""
+    angles = [t.eighth_of(phase)[2] for phase in telling.WAVE_PHASES]
+    for by_cosine, divisors in ((False, (110, 72, 42, 20, 6)), (True, (132, 90, 56, 30, 12, 2))):
+        right = [13493037705, 1 << 30, 1 << 31, 1 << 31, 2, *(number for d in divisors for number in (d, 1 << 31))]
+        answers = [recipe(by_cosine, a, right) for a in angles]
+        expect('waves', answers, [t.sine(a + t.UNIT * by_cosine) for a in angles])
+        slips = [(i, wrong) for i, number in enumerate(right)
+                 for wrong in ((0, 2 * number - 1) if number in (1 << 30, 1 << 31) else (number - 1, number + 1))]
+        # g is the sine's alone; and of all 2^29 angles none tells the rounding up of the cosine's first step
+        unseen = [(3, 0), (3, (1 << 32) - 1), (6, (1 << 32) - 1)] if by_cosine else []
+        for i, wrong in slips:
+            told = answers != [recipe(by_cosine, a, [*right[:i], wrong, *right[i + 1:]]) for a in angles]
+            expect('waves', told, (i, wrong) not in unseen)
+
+
 # --- Fields, step two and permanent systems ---
 
 def fields():
@@ -213,13 +209,13 @@ def fields():
             expect('fields', t.field_test(N, *bad), 1)
         for entry in ((1 << 60) + 1, -(1 << 60) - 1, (1 << 63) - 1, -(1 << 63)):
             spoilt = list(C)
-            spoilt[rng.randrange(len(C))] = entry
+            spoilt[chance.below(len(C))] = entry
             expect('fields', (t.field_test(N, spoilt, S), t.field_test(N, S, spoilt)), (2, 2))
 
 
 def step_two():
-    for i in range(1500):
-        phases, N = random_phases(), 4 if i % 5 else rng.randint(4, 60)
+    for i in range(400):
+        phases, N = random_phases(), 4 if i % 5 else chance.between(4, 60)
         for love in LOVES:
             five = t.step_two_corrections(phases, love)
             for value, exact in zip(five, t.step_two_exact(phases, love), strict=True):
@@ -229,23 +225,21 @@ def step_two():
             wanted = [0] * 3 + [five[0], five[1], five[3]] + [0] * (t.size(N) - 6), [0] * 4 + [five[2], five[4]] + [0] * (t.size(N) - 6)
             expect('step two', (number, [b - a for a, b in zip(C, C2)], [b - a for a, b in zip(S, S2)]), (0, *wanted))
             assert love == t.ANELASTIC or five[0] == 0
-    # A tie in S22: the minus sign stands inside the sum. 300 * 2^27 * odd is a whole number of counts and a half.
-    goal = next(odd << 27 for odd in (1, 3, 5) if sine_phase(odd << 27) is not None)
-    tie = (0, -sine_phase(goal) & U32, 0, 0, 0, 0)                      # 245,655 has the multiplier -1 for s
-    expect('step two', t.line_sums(tie, t.ELASTIC, t.sine, t.cosine)[4], 300 * goal)
-    expect('step two', t.step_two_corrections(tie, t.ELASTIC)[4], (300 * goal >> 30) + 1)
-
-
-def sine_phase(value):
-    """A phase of the first two eighths whose sine is this many units, or None."""
-    near = round(asin(value / 2**30) * 2**32 / 6.283185307179586)
-    return next((near + d for d in range(-3, 4) if t.sine(near + d) == value), None)
+    for phases in telling.tie_phases():
+        ties = 0
+        for love in LOVES:
+            sums = t.line_sums(phases, love, t.sine, t.cosine)
+            for value, total in zip(t.step_two_corrections(phases, love), sums, strict=True):
+                if total % t.UNIT == t.UNIT // 2:
+                    expect('step two', value, (total >> 30) + 1)                # the half goes up, whatever its sign
+                    ties += 1
+        expect('step two', ties > 0, True)
 
 
 def permanent():
     edge = 1 << 60
     for have, want, love in product(SYSTEMS, SYSTEMS, LOVES):
-        for c20 in [0, edge, -edge, edge - 1] + [rng.randint(-edge, edge) for _ in range(200)]:
+        for c20 in [0, edge, -edge, edge - 1] + [chance.between(-edge, edge) for _ in range(200)]:
             refusal, moved = t.move_c20(c20, have, want, love)
             expect('permanent', refusal, 0)
             back = t.move_c20(moved, want, have, love)
@@ -262,14 +256,13 @@ def permanent():
 
 def sheet_faults():
     """Faults set one at a time and in pairs; the lowest number answers."""
-    lines, rows = [(0,) * 6, (13, -13, 0, 0, 0, 1)], [[4_000_000, 0], [-2_000_000, 2_000_000], [1, -1]]
-    places = [(1, 0, [(1 << 24, 0, -(1 << 24), 0)] * 3), (1, 1, [(1, 2, 3, 4)] * 3), (5, 0, [(0,) * 4] * 3)]
-    good = write_sheet(lines, rows, places)
+    lines, rows, places = given.SMALL
+    good, zero = write_sheet(lines, rows, places), [(0,) * 4]
 
     def refuse(number, data, N=5):
         expect('sheet', t.sheet_test(data, N), (number, None))
         C, S = random_field(N)
-        expect('sheet', t.ocean(N, C, S, data, random_phases(), rng.choice(FRAMES)), (number, C, S))
+        expect('sheet', t.ocean(N, C, S, data, random_phases(), chance.one(*FRAMES)), (number, C, S))
 
     expect('sheet', t.sheet_test(good, 5)[0], 0)
     for frame in FRAMES:
@@ -284,31 +277,14 @@ def sheet_faults():
     for at, wrong in zip(counts_at, ((0, 129, 3, 65535), (0, 33, 2, 4, 65535), (91, 2, 4, 65535)), strict=True):
         for count in wrong:
             refuse(7, good[:at] + struct.pack('<H', count) + good[at + 2:])
-    refuse(7, write_sheet([], rows, places))
-    refuse(7, write_sheet([(0,) * 6] * 129, [[0] * 129], []))
-    refuse(7, write_sheet(lines, [], []))
-    refuse(7, write_sheet(lines, [[0, 0]] * 33, []))
-    refuse(7, write_sheet(lines, rows, [(1, 1, [(0,) * 4] * 3)] * 91))
-
-    bad_lines = [[(0,) * i + (v,) + (0,) * (5 - i), lines[1]] for i in range(6) for v in (14, -14, 127, -128)]
-    bad_rows = [[[4_000_000, 1]], [[-2_000_000, 2_000_001]], [[-(1 << 31), 0]], [[0, 0], [-(1 << 31), -(1 << 31)]]]
-    zero = [(0,) * 4]
-    bad_places = [
-        [(0, 0, zero)], [(13, 0, zero)], [(255, 255, zero)], [(2, 3, zero)], [(0, 1, zero)], [(2, 2, zero), (2, 2, zero)],
-        [(2, 2, zero), (2, 1, zero)], [(3, 0, zero), (2, 2, zero)], [(3, 0, [(0, 1, 0, 0)])], [(3, 0, [(0, 0, 0, -1)])]]
-    too_large = (1 << 24) + 1, -(1 << 24) - 1, -(1 << 31), (1 << 31) - 1
-    bad_places += [[(2, 2, [(0,) * i + (v,) + (0,) * (3 - i)])] for i in range(4) for v in too_large]
-    for wrong in bad_lines:
-        refuse(8, write_sheet(wrong, rows, places))
-        refuse(8, write_sheet(wrong, rows, places), N=4)                        # 8 before 9
-        refuse(7, write_sheet(wrong, rows, places) + b'\1')                     # 7 before 8
-    for wrong in bad_rows:
-        refuse(8, write_sheet(lines, wrong, []))
-        refuse(7, write_sheet(lines, wrong, [])[:-1])
-    for wrong in bad_places:
-        refuse(8, write_sheet(lines, [[0, 0]], wrong))
-        refuse(8, write_sheet(lines, [[0, 0]], wrong + [(12, 12, zero)]), N=4)
-        refuse(7, write_sheet(lines, [[0, 0]], wrong)[:-1])
+    for shape in ((0, 1, 1), (129, 1, 0), (1, 0, 1), (1, 33, 1), (1, 1, 91), (129, 33, 91)):
+        refuse(7, given.shaped_sheet(*shape), N=13)
+    for lines_, rows_, places_ in given.faulty_sheets():
+        data = write_sheet(lines_, rows_, places_)
+        refuse(8, data, N=12)
+        refuse(8, data, N=4)                                                    # 8 before 9
+        refuse(7, data + b'\1')                                                 # 7 before 8
+        refuse(7, data[:-1])
     for N in range(4, 13):
         data = write_sheet(lines, [[0, 0]], [(N, N, zero)])
         expect('sheet', t.sheet_test(data, N)[0], 0)
@@ -318,22 +294,22 @@ def sheet_faults():
     expect('sheet', t.ocean(4, [1 << 61] * 15, [0] * 15, b'', NONE, t.MASS), (2, [1 << 61] * 15, [0] * 15))
     for _ in range(3000):
         data = bytearray(good)
-        data[rng.randrange(len(data))] = rng.getrandbits(8)
+        data[chance.below(len(data))] = chance.below(256)
         expect('sheet', t.sheet_test(bytes(data), 5)[0] in (0, 7, 8, 9), True)
-        expect('sheet', t.sheet_test(rng.randbytes(rng.randrange(120)), 5)[0] in (7, 8, 9), True)
+        expect('sheet', t.sheet_test(chance.bytes(chance.below(120)), 5)[0] in (7, 8, 9), True)
 
 
 def ocean(hardest):
-    for _ in range(2000):
-        sheet = random_sheet(rng.randint(1, 6), rng.randint(1, 4), rng.randint(0, 6))
-        check_ocean(sheet, random_phases(), rng.choice(FRAMES), N=rng.randint(12, 16))
+    for _ in range(1000):
+        sheet = given.sheet(chance, chance.between(1, 6), chance.between(1, 4), chance.between(0, 6))
+        check_ocean(sheet, random_phases(), chance.one(*FRAMES), N=chance.between(12, 16))
     for sizes in ((128, 32, 90), (1, 32, 90), (128, 1, 90), (40, 20, 90), (128, 32, 0)):
         for frame in FRAMES:
-            check_ocean(random_sheet(*sizes), random_phases(), frame)
+            check_ocean(given.sheet(chance, *sizes), random_phases(), frame)
     for frame in FRAMES:
         check_ocean(hard_sheet(hardest), (hardest, 0, 0, 0, 0, 0), frame)
     for _ in range(4):
-        phase = random_phase()
+        phase = given.phase(chance)
         check_ocean(hard_sheet(phase), (phase, 1, 2, 3, 4, 5), t.FIGURE)
 
 
@@ -341,13 +317,6 @@ def ocean(hardest):
 
 MOON = (0.0123000371, (t.RECTANGULAR, 2.1e8, -2.6e8, 1.1e8, sqrt(2.1e8 * 2.1e8 + 2.6e8 * 2.6e8 + 1.1e8 * 1.1e8)))
 SUN = (332946.0487, (t.DIRECTION, 0.6, 0.0, 0.8, 1.496e11))
-
-
-def random_body(ratio, low, high):
-    x, y, z = (rng.gauss(0, 1) for _ in range(3))
-    length, r = sqrt(x * x + y * y + z * z), rng.uniform(low, high)
-    u, v, w = x / length, y / length, z / length
-    return ratio, (t.DIRECTION, u, v, w, r) if rng.random() < 0.5 else (t.RECTANGULAR, u * r, v * r, w * r, r)
 
 
 def by_latitude(bodies, love):
@@ -373,7 +342,7 @@ def by_latitude(bodies, love):
 
 def step_one_values():
     for _ in range(1500):
-        moon, sun = random_body(0.0123000371, 3.5e8, 4.1e8), random_body(332946.0487, 1.47e11, 1.53e11)
+        moon, sun = given.moon(chance), given.sun(chance)
         for love in LOVES:
             C, S = random_field(4)
             number, C2, S2 = t.step_one(4, C, S, moon, sun, love)
@@ -402,71 +371,53 @@ def step_one_refusals():
         expect('step one', got, number)
         assert got == 0 or (C, S) == field
 
-    def spoilt(body, **parts):
-        ratio, (kind, *numbers) = body
-        for name, value in parts.items():
-            if name == 'ratio':
-                ratio = value
-            else:
-                numbers['uvwr'.index(name)] = value
-        return ratio, (kind, *numbers)
-
-    ups = [SUN, (0.5, (t.RECTANGULAR, 0.0, -0.0, -1e8, 1e8))]
-    threes = [spoilt(b, **{name: bad}) for b in ups for name in ('ratio', *'uvwr') for bad in (nan, inf, -inf)]
-    fours = [spoilt(b, r=r) for b in ups for r in (nextafter(1e8, 0), nextafter(1e12, inf), 0.0, -0.0, -1e9, 5e-324, 1.7e308)]
-    fours += [spoilt(b, ratio=ratio) for b in ups for ratio in (0.0, -0.0, -1.0, nextafter(1e6, inf), 1.7e308)]
-    fives = [spoilt(b, w=w) for b in ups for w in (0.0, 1e308, -1.7e308, 5e-324, 0.5)]
-    fives += [spoilt(SUN, u=1.7e308, v=-1.7e308, w=1.7e308), spoilt(SUN, w=nextafter(0.8, 1) + 1e-12)]
-    for number, faults in ((3, threes), (4, fours), (5, fives)):
-        for fault in faults:
-            answer(number, fault, SUN)
-            answer(number, MOON, fault)
-            answer(number, fault, rng.choice(threes))                           # a faulty Sun never comes before the Moon
-            expect('step one', t.step_one(3, *field, fault, fault, t.ELASTIC), (1, *field))
-            expect('step one', t.step_one(4, [1 << 62] * 15, field[1], fault, fault, t.ELASTIC), (2, [1 << 62] * 15, field[1]))
-    answer(3, spoilt(SUN, ratio=-1.0, w=nan), SUN)                              # 3 before 4 before 5 of one body
-    answer(3, spoilt(SUN, r=1.0, u=inf), SUN)
-    answer(4, spoilt(SUN, r=1.0, u=7.0), SUN)
+    faults = given.faulty_bodies()
+    for number, fault in faults:
+        answer(number, fault, SUN)
+        answer(number, MOON, fault)
+        answer(number, fault, chance.one(*faults)[1])                           # a faulty Sun never comes before the Moon
+        expect('step one', t.step_one(3, *field, fault, fault, t.ELASTIC), (1, *field))
+        expect('step one', t.step_one(4, [1 << 62] * 15, field[1], fault, fault, t.ELASTIC), (2, [1 << 62] * 15, field[1]))
+    for number, first, second in ((3, (0, -1.0), (3, nan)), (3, (4, 1.0), (1, inf)), (4, (4, 1.0), (1, 7.0))):
+        answer(number, given.spoilt_body(given.spoilt_body(SUN, *first), *second), SUN)     # 3 before 4 before 5 of one body
 
     answer(0, MOON, SUN)
     for r, ratio in product((1e8, 1e12), (5e-324, 1e-300, 1.0)):                # bounds pass, and the tiniest ratio
         answer(0, (ratio, (t.DIRECTION, 0.0, 0.0, 1.0, r)), (ratio, (t.RECTANGULAR, -r, 0.0, -0.0, r)))
     answer(0, (1e6, (t.DIRECTION, 5e-324, 0.0, 1.0, 1e12)), SUN)
-    for w in (1.0 + ldexp(1.0, -41), 1.0 - ldexp(1.0, -41)):                    # unit test: bounds themselves pass
-        answer(0, (1.0, (t.DIRECTION, 0.0, 0.0, w, 1e9)), SUN)
-    for w in (nextafter(1.0 + ldexp(1.0, -41), 2), nextafter(1.0 - ldexp(1.0, -41), 0)):
-        answer(5, (1.0, (t.DIRECTION, 0.0, 0.0, w, 1e9)), SUN)
+    for end, beyond in ((1.0 + t.TINY, 2.0), (1.0 - t.TINY, 0.0)):              # length one: the ends themselves pass
+        answer(0, (1.0, (t.DIRECTION, *telling.at_length_one(chance, end), 1e9)), SUN)
+        answer(5, (1.0, (t.DIRECTION, *telling.at_length_one(chance, nextafter(end, beyond)), 1e9)), SUN)
     for u, v, w in ((0.6, 0.0, 0.8), (0.0, 0.0, 1.0), (1.0, 0.0, 0.0), (0.0, -0.6, -0.8)):
         near = (1e6, (t.DIRECTION, u, v, w, 1e8))
         answer(6, near, SUN)
         answer(6, SUN, near)
-        answer(5, near, fives[0])
+        answer(5, near, given.spoilt_body(SUN, 3, 0.5))
     bound_of_six()
 
 
 def bound_of_six():
-    """The Moon's ratio at which refusal 6 begins: bisected, and the products on both sides looked at."""
-    for love in LOVES:
-        low, high = 1.0, 1e6
-        sun = (5e-324, SUN[1])
-        moon = lambda ratio: (ratio, (t.DIRECTION, 0.0, 0.6, 0.8, 1e8))
-        while nextafter(low, inf) < high:
-            middle = (low + high) / 2
-            if t.step_one_corrections(moon(middle), sun, love)[0]:
-                high = middle
-            else:
-                low = middle
-        largest = lambda ratio: max(abs(x) for pair in t.step_one_products(moon(ratio), sun, love).values() for x in pair)
-        expect('step one', t.step_one_corrections(moon(low), sun, love)[0], 0)
-        expect('step one', t.step_one_corrections(moon(high), sun, love)[0], 6)
-        expect('step one', largest(low) < 2**52 <= largest(high), True)
-        expect('step one', all(dS == 0 for (n, m), (_, dS) in t.step_one_products(moon(high), sun, love).items() if m == 0), True)
+    """Each coefficient of degree 2 at 2^52 and at -2^52, refused, and half a count inside, where it passes."""
+    for coefficient, love, sign in product(telling.COEFFICIENTS[:5], LOVES, (1, -1)):
+        for size, number in ((t.COUNT_BOUND, 6), (t.COUNT_BOUND - 0.5, 0)):
+            bodies = telling.at_the_bound(chance, coefficient, love, sign * size)
+            expect('step one', t.step_one_corrections(*bodies, love)[0], number)
+            expect('step one', telling.product_of(coefficient, *bodies, love), sign * size)
+            expect('step one', all(dS == 0 for (n, m), (_, dS) in t.step_one_products(*bodies, love).items() if m == 0), True)
+
+
+def day():
+    """The worked day: its counts were made with doubles, apart from this program."""
+    number, corrections = t.step_one_corrections(*telling.DAY_BODIES, t.ANELASTIC)
+    expect('day', (number, {(n, m): both for n, m, *both in corrections if n == 2}), (0, telling.DAY_STEP_ONE))
+    expect('day', t.step_two_corrections(telling.DAY_PHASES, t.ANELASTIC), telling.DAY_STEP_TWO)
 
 
 def main():
     cases()
     doodson()
     hardest = sines()
+    wave_slips()
     fields()
     step_two()
     permanent()
@@ -474,6 +425,7 @@ def main():
     ocean(hardest)
     step_one_values()
     step_one_refusals()
+    day()
     seen = ', '.join(f'{kind} {count}' for kind, count in counts.items())
     errors = ', '.join(f'{kind} {float(error):.6f}' for kind, error in worst.items())
     print(f'ok: {seen}; largest errors: {errors}')

@@ -13,12 +13,14 @@ import struct
 import sys
 from collections import Counter
 from itertools import product
-from math import inf, ldexp, nan, nextafter
+from math import inf, ldexp, nextafter
 from pathlib import Path
 
+import given
+import telling
 import tides as t
 from chance import Chance
-from check import write_sheet
+from given import EDGE, GOOD, LEAST_64, NONE, SMALL, U32, placed, spoilt, spoilt_body, write_sheet
 
 CRATE = Path(__file__).resolve().parent.parent / 'crates' / 'run'
 chance = Chance(19960622)
@@ -27,10 +29,7 @@ LOVES = t.ELASTIC, t.ANELASTIC
 FRAMES = t.FIGURE, t.MASS
 SYSTEMS = t.TIDE_FREE, t.ZERO, t.MEAN
 KINDS = t.RECTANGULAR, t.DIRECTION
-U32 = (1 << 32) - 1
-EDGE = t.FIELD_BOUND
-I64 = -(1 << 63), (1 << 63) - 1
-NONE = (0,) * 6
+BEYOND = EDGE, EDGE + 1, -EDGE, -EDGE - 1, LEAST_64, -1 - LEAST_64
 
 cases, lines, tally = [], [], Counter()
 
@@ -39,10 +38,6 @@ def case(kind, call, data, number, values):
     cases.append(bytes((kind,)) + data)
     lines.append(' '.join(map(str, (number, *values))))
     tally[call, number] += 1
-
-
-def spoilt(entries, i, entry):
-    return [*entries[:i], entry, *entries[i + 1:]]
 
 
 # --- Calls that lend no field ---
@@ -79,10 +74,10 @@ def numbers():
         sought(number)
     for place, (low, high) in enumerate([(0, 9)] + [(-5, 4)] * 5):
         for value in (low - 1, low, high, high + 1, low + 256, *((-(1 << 31), (1 << 31) - 1) if place == 3 else ())):
-            written((*NONE[:place], value, *NONE[place + 1:]))
+            written(tuple(spoilt(NONE, place, value)))
     for have, want, love in product(SYSTEMS, SYSTEMS, LOVES):
         moved(chance.one(0, -484165143790, chance.between(-EDGE, EDGE)), have, want, love)
-    for c20 in (EDGE, EDGE + 1, -EDGE, -EDGE - 1, *I64):
+    for c20 in BEYOND:
         moved(c20, t.TIDE_FREE, t.MEAN, t.ANELASTIC)
 
 
@@ -117,18 +112,6 @@ def ocean_tide(sheet, phases, frame):
     return 6, 'ocean_tide', data, lambda N, C, S: t.ocean(N, C, S, sheet, phases, frame)
 
 
-def entries(N, size=10**12):
-    return [chance.between(-size, size) for _ in range(t.size(N))]
-
-
-def any_field(N):
-    return N, entries(N), entries(N)
-
-
-def any_phases():
-    return tuple(chance.below(1 << 32) for _ in range(6))
-
-
 ZEROS = 4, [0] * 15, [0] * 15
 
 
@@ -139,31 +122,34 @@ def field_edges(call):
     for c, s in ((14, 15), (15, 14), (16, 15), (15, 16), (0, 0), (21, 21)):
         over_field(4, [EDGE + 1] * c, [6] * s, call)
     fine = [7] * 15
-    for entry in (EDGE, EDGE + 1, -EDGE, -EDGE - 1, *I64):
+    for entry in BEYOND:
         over_field(4, spoilt(fine, chance.below(15), entry), fine, call)
         over_field(4, fine, spoilt(fine, chance.below(15), entry), call)
     for N in (5, 17):
-        over_field(*any_field(N), call)
-    over_field(*over_field(*any_field(4), call), call)          # a second call adds as the first did
+        over_field(*given.varied_field(chance, N), call)
+    over_field(*over_field(*given.varied_field(chance, 4), call), call)         # a second call adds as the first did
 
 
-def placed(kind, u, v, w, r):
-    return (kind, u, v, w, r) if kind == t.DIRECTION else (kind, u * r, v * r, w * r, r)
-
-
-def any_body(ratio, low, high):
-    return ratio, placed(chance.one(*KINDS), *chance.direction(), chance.real(low, high))
-
-
-def moon_and_sun():
-    return any_body(0.0123000371, 3.5e8, 4.1e8), any_body(332946.0487, 1.47e11, 1.53e11)
-
-
-def spoilt_body(body, at, value):
-    """A body with one of ratio, x or u, y or v, z or w, r changed."""
-    ratio, (kind, *floats) = body
-    ratio, *floats = spoilt([ratio, *floats], at, value)
-    return ratio, (kind, *floats)
+def bodies():
+    """Refusals 3, 4 and 5 of either body and their order, the last floats that pass, and refusal 6."""
+    faults = [body for _, body in given.faulty_bodies()[::3]]
+    for i, bad in enumerate(faults):
+        over_field(*ZEROS, step_one(bad, chance.one(*GOOD, faults[-1 - i]), LOVES[i % 2]))
+        over_field(*ZEROS, step_one(GOOD[0], bad, LOVES[i // 2 % 2]))
+    over_field(3, *ZEROS[1:], step_one(bad, bad, t.ELASTIC))
+    far = 1e-3, (t.DIRECTION, 0.0, -0.6, 0.8, 1e12)
+    for at, value in ((4, 1e8), (4, 1e12), (0, 5e-324), (0, 1e6)):
+        over_field(*ZEROS, step_one(spoilt_body(far, at, value), GOOD[0], t.ANELASTIC))
+    half = ldexp(1.0, -41)
+    for at, edge in product((1, 2, 3), (1.0 + half, 1.0 - half, -1.0 - half)):
+        for value in (edge, nextafter(edge, 2 * edge if abs(edge) > 1 else 0.0)):
+            over_field(*ZEROS, step_one(spoilt_body((1.0, (t.DIRECTION, 0.0, 0.0, 0.0, 1e9)), at, value), GOOD[1], t.ELASTIC))
+    for i in range(6):                                                          # the last ratio whose corrections stay below 2^52, and the next
+        axis, love = chance.direction(), LOVES[i % 2]
+        heavy = lambda ratio: (ratio, placed(KINDS[i // 2 % 2], *axis, 1e8))
+        for ratio in last_passing(lambda ratio: t.step_one_corrections(heavy(ratio), GOOD[0], love)[0] == 0, 1.0, 1e6):
+            over_field(*ZEROS, step_one(heavy(ratio), GOOD[0], love))
+        over_field(*ZEROS, step_one(heavy(1e6), spoilt_body(GOOD[0], 1, 7.0), love))
 
 
 def last_passing(passes, low, high):
@@ -175,78 +161,32 @@ def last_passing(passes, low, high):
     return low, high
 
 
-def bodies():
-    """Refusals 3, 4 and 5 of either body, their order, and the last floats that pass."""
-    good = [(1e-3, placed(kind, 0.0, -0.6, 0.8, 4e8)) for kind in KINDS]
-    faults = [(at, value) for at in range(5) for value in (nan, inf, -inf)]
-    faults += [(4, r) for r in (nextafter(1e8, 0), nextafter(1e12, inf), -4e8)] + [(0, ratio) for ratio in (0.0, -1.0, nextafter(1e6, inf))]
-    faults += [(1, 1e160), (2, 7e9), (3, -1.7e308)]
-    for i, fault in enumerate(faults):
-        bad, other = spoilt_body(good[i % 2], *fault), spoilt_body(good[i // 2 % 2], *faults[-1 - i])
-        over_field(*ZEROS, step_one(bad, chance.one(*good, other), LOVES[i % 2]))
-        over_field(*ZEROS, step_one(good[0], bad, LOVES[i // 2 % 2]))
-    over_field(3, *ZEROS[1:], step_one(bad, bad, t.ELASTIC))
-    half = ldexp(1.0, -41)
-    passing = [(4, 1e8), (4, 1e12), (0, 5e-324), (0, 1e6)]
-    for at, value in passing:
-        over_field(*ZEROS, step_one(spoilt_body((1e-3, (t.DIRECTION, 0.0, -0.6, 0.8, 1e12)), at, value), good[0], t.ANELASTIC))
-    for at, edge in product((1, 2, 3), (1.0 + half, 1.0 - half, -1.0 - half)):
-        for value in (edge, nextafter(edge, 2 * edge if abs(edge) > 1 else 0.0)):
-            over_field(*ZEROS, step_one(spoilt_body((1.0, (t.DIRECTION, 0.0, 0.0, 0.0, 1e9)), at, value), good[1], t.ELASTIC))
-    for i in range(6):                                            # the last ratio whose corrections stay below 2^52, and the next
-        axis, love = chance.direction(), LOVES[i % 2]
-        heavy = lambda ratio: (ratio, placed(KINDS[i // 2 % 2], *axis, 1e8))
-        for ratio in last_passing(lambda ratio: t.step_one_corrections(heavy(ratio), good[0], love)[0] == 0, 1.0, 1e6):
-            over_field(*ZEROS, step_one(heavy(ratio), good[0], love))
-        over_field(*ZEROS, step_one(heavy(1e6), spoilt_body(good[0], 1, 7.0), love))
-
-
 def solid():
-    field_edges(step_one(*moon_and_sun(), t.ELASTIC))
-    field_edges(step_two(any_phases(), t.ANELASTIC))
+    bodies_call = lambda love: step_one(given.moon(chance), given.sun(chance), love)
+    phases_call = lambda love: step_two(given.phases(chance), love)
+    field_edges(bodies_call(t.ELASTIC))
+    field_edges(phases_call(t.ANELASTIC))
     bodies()
     for i in range(40):
-        over_field(*chance.one(ZEROS, any_field(4)), step_one(*moon_and_sun(), LOVES[i % 2]))
-        over_field(*chance.one(ZEROS, any_field(4)), step_two(any_phases(), LOVES[i // 2 % 2]))
+        over_field(*chance.one(ZEROS, given.varied_field(chance, 4)), bodies_call(LOVES[i % 2]))
+        over_field(*chance.one(ZEROS, given.varied_field(chance, 4)), phases_call(LOVES[i % 2]))
+    for i, coefficient in enumerate(telling.COEFFICIENTS):
+        over_field(*ZEROS, step_one(*telling.at_a_half(chance, coefficient, LOVES[i % 2]), LOVES[i % 2]))
     for love in LOVES:
-        for phases in (NONE, (1 << 30, 0, 0, 0, 0, 0), (U32,) * 6):
+        for phases in (NONE, (1 << 30, 0, 0, 0, 0, 0), (U32,) * 6, *telling.tie_phases()):
             over_field(*ZEROS, step_two(phases, love))
-    for place, k in product(range(6), range(8)):                  # each argument beside an edge of the eighths
+    over_field(*ZEROS, step_one(*telling.DAY_BODIES, t.ANELASTIC))
+    over_field(*ZEROS, step_two(telling.DAY_PHASES, t.ANELASTIC))
+    for place, k in product(range(6), range(8)):                                # each argument beside an edge of the eighths
         over_field(*ZEROS, step_two(tuple(spoilt(NONE, place, (k << 29) + chance.between(-1, 1) & U32)), LOVES[k % 2]))
-    for call in (step_one(*moon_and_sun(), t.ANELASTIC), step_two(any_phases(), t.ANELASTIC)):
-        over_field(*any_field(60), call)
-
-
-ZERO = [(0,) * 4]
-SMALL = (
-    [NONE, (13, -13, 0, 0, 0, 1)],
-    [[4_000_000, 0], [-2_000_000, 2_000_000], [1, -1]],
-    [(1, 0, [(1 << 24, 0, -(1 << 24), 0)] * 3), (1, 1, [(1, 2, 3, 4)] * 3), (5, 0, ZERO * 3)])
-
-
-def faulty_sheets():
-    """Sheets refused with 8: each with one fault."""
-    lines, rows, places = SMALL
-    least, beyond = -(1 << 31), (1 << 24) + 1
-    for i, value in ((0, 14), (1, -14), (5, -128), (3, 127)):
-        yield [lines[0], spoilt(lines[1], i, value)], rows, places
-    for bad in ([4_000_000, 1], [-2_000_000, 2_000_001], [0, -4_000_001], [least, least]):
-        yield lines, [*rows[:2], bad], places
-    yield [NONE] * 4, [[least] * 4], []                           # adds to 0 in 32 bits, and in 33
-    for bad in ((0, 0), (13, 0), (2, 3), (255, 255)):
-        yield lines, [[0, 0]], [(*bad, ZERO)]
-    for one, two in (((2, 2), (2, 2)), ((2, 2), (2, 1)), ((3, 0), (2, 2))):
-        yield lines, [[0, 0]], [(1, 0, ZERO), (*one, ZERO), (*two, ZERO)]
-    for i, value in product(range(4), (beyond, -beyond)):
-        yield lines, [[0, 0]] * 2, [(2, 1, ZERO * 2), (2, 2, ZERO + [tuple(spoilt(NONE[:4], i, value))])]
-    for bad in ((0, 1, 0, 0), (0, 0, 0, -1)):
-        yield lines, [[0, 0]], [(3, 0, [bad])]
+    for call in (bodies_call(t.ANELASTIC), phases_call(t.ANELASTIC)):
+        over_field(*given.varied_field(chance, 60), call)
 
 
 def sheet_refusals():
     """7, 8 and 9, and 7 before 8 before 9."""
-    small = write_sheet(*SMALL)
-    call = lambda sheet: ocean_tide(sheet, any_phases(), chance.one(*FRAMES))
+    small, zero = write_sheet(*SMALL), [(0,) * 4]
+    call = lambda sheet: ocean_tide(sheet, given.phases(chance), chance.one(*FRAMES))
     refuse = lambda sheet, N=5: over_field(N, [1] * t.size(N), [2] * t.size(N), call(sheet))
     for cut in (0, 1, 2, 3, 13, 14, 15, 40, 41, 42, 43, len(small) - 1):
         refuse(small[:cut])
@@ -254,31 +194,17 @@ def sheet_refusals():
     for at, counts in zip((0, 14, 40), ((0, 1, 3, 129, 65535), (0, 2, 4, 33, 65535), (0, 2, 4, 91, 65535))):
         for count in counts:
             refuse(small[:at] + struct.pack('<H', count) + small[at + 2:])
-    many = [(n, m) for n in range(1, 13) for m in range(n + 1)] + [(13, 0)]
-    for n_lines, n_tides, n_places in ((0, 1, 0), (129, 1, 0), (1, 0, 0), (1, 33, 0), (1, 1, 91), (128, 1, 1), (1, 32, 1), (1, 1, 90)):
-        refuse(write_sheet([NONE] * n_lines, [[100] * n_lines] * n_tides, [(*place, ZERO * n_tides) for place in many[:n_places]]), 12)
-    for sheet in faulty_sheets():
+    for counts in ((0, 1, 0), (129, 1, 0), (1, 0, 0), (1, 33, 0), (1, 1, 91), (128, 1, 1), (1, 32, 1), (1, 1, 90)):
+        refuse(given.shaped_sheet(*counts), 12)
+    for sheet in list(given.faulty_sheets())[::3]:
         refuse(write_sheet(*sheet), 4)
     bad = write_sheet(*sheet)
     refuse(bad[:-1])
     for N in (4, 5, 11, 12):
-        refuse(write_sheet(SMALL[0], [[0, 0]], [(2, 2, ZERO), (N, 0, ZERO)]), N)
-        refuse(write_sheet(SMALL[0], [[0, 0]], [(2, 2, ZERO), (N, N, ZERO)]), max(4, N - 1))
+        refuse(write_sheet(SMALL[0], [[0, 0]], [(2, 2, zero), (N, 0, zero)]), N)
+        refuse(write_sheet(SMALL[0], [[0, 0]], [(2, 2, zero), (N, N, zero)]), max(4, N - 1))
     over_field(3, *ZEROS[1:], call(bad[:-1]))
     over_field(4, [EDGE + 1] * 15, [0] * 15, call(bad))
-
-
-def any_sheet(n_lines, n_tides, n_places, top):
-    """A sheet that is accepted at degrees from top on."""
-    lines = [tuple(chance.between(-13, 13) for _ in range(6)) for _ in range(n_lines)]
-    rows = [[chance.between(-1, 1) * chance.below(4_000_000 // n_lines + 1) for _ in lines] for _ in range(n_tides)]
-    count = lambda m, q: 0 if m == 0 and q % 2 else chance.between(-(1 << 24), 1 << 24)
-    places = chance.some(n_places, [(n, m) for n in range(1, top + 1) for m in range(n + 1)])
-    return write_sheet(lines, rows, [(n, m, [tuple(count(m, q) for q in range(4)) for _ in rows]) for n, m in places])
-
-
-# phases at which the last divisor of the cosine, 132, shows: beside 131, 133, 134 and 140
-TELLING = 609463915, 608984082, 555382739, 2741960305
 
 
 def ocean():
@@ -287,21 +213,20 @@ def ocean():
         over_field(*ZEROS, ocean_tide(nine, (tau, 0, 0, 0, 0, 0), frame))
     for sheet in (nine[:33], nine + b'\0'):
         over_field(*ZEROS, ocean_tide(sheet, NONE, t.FIGURE))
-    field_edges(ocean_tide(nine, any_phases(), t.FIGURE))
+    field_edges(ocean_tide(nine, given.phases(chance), t.FIGURE))
     sheet_refusals()
+    any_sheet = lambda *counts: write_sheet(*given.sheet(chance, *counts))
     for i in range(24):
         top = chance.one(4, 4, 6)
         sheet = any_sheet(chance.between(1, 5), chance.between(1, 3), chance.between(0, 5), top)
-        over_field(*any_field(top), ocean_tide(sheet, any_phases(), FRAMES[i % 2]))
-    for frame in FRAMES:                                          # degree 1 beside other degrees
-        over_field(*any_field(4), ocean_tide(any_sheet(2, 2, 14, 4), any_phases(), frame))
-    # sine and cosine in their units: 16 tides of 4 times a line's wave, at 2^24 counts each, add to S and C of one place
-    wave = write_sheet([(1, 0, 0, 0, 0, 0)], [[4_000_000]] * 16, [(2, 2, [(1 << 24, 0, 0, 1 << 24)] * 16)])
-    for phase in (*((k << 29) + d & U32 for k in range(8) for d in (-1, 0, 1)), *TELLING):
-        _, C, S = over_field(*ZEROS, ocean_tide(wave, (phase, 0, 0, 0, 0, 0), t.FIGURE))
+        over_field(*given.varied_field(chance, top), ocean_tide(sheet, given.phases(chance), FRAMES[i % 2]))
+    for frame in FRAMES:                                                        # degree 1 beside other degrees
+        over_field(*given.varied_field(chance, 4), ocean_tide(any_sheet(2, 2, 14, 4), given.phases(chance), frame))
+    for phase in (*((k << 29) + d & U32 for k in range(8) for d in (-1, 0, 1)), *telling.WAVE_PHASES):
+        _, C, S = over_field(*ZEROS, ocean_tide(given.wave_sheet(), (phase, 0, 0, 0, 0, 0), t.FIGURE))
         assert (C[5], S[5]) == (t.cosine(phase), t.sine(phase))
-    over_field(*any_field(12), ocean_tide(any_sheet(128, 2, 90, 12), any_phases(), t.FIGURE))
-    over_field(*any_field(60), ocean_tide(any_sheet(128, 32, 90, 12), any_phases(), t.MASS))
+    over_field(*given.varied_field(chance, 12), ocean_tide(any_sheet(128, 2, 90), given.phases(chance), t.FIGURE))
+    over_field(*given.varied_field(chance, 60), ocean_tide(any_sheet(128, 32, 90), given.phases(chance), t.MASS))
 
 
 def main():

@@ -2,7 +2,8 @@
 
 The toolchain counts an edit as refused where the crate is no longer proved, whatever the reason. It shows something only where a fact no longer
 holds: the first thing that the prover refuses, leaving out what merely rests on it, is no unknown name, no error in a file of definitions, and
-no proof that is unfit for the code's new shape. Exits 1 with a line for each edit that shows nothing, has no log, or no longer fits the text.
+nothing that a proof names of the code's old shape. Exits 1 with a line for each edit that shows nothing, has no log, or no longer fits the text.
+It also names the edits that show less: refused first in a file of laws, or where a proof's equation is not in the goal any more.
 """
 
 import re
@@ -17,9 +18,8 @@ SHAPE = {
     'has no field `': 'the proof names what the code no longer has',
     'is not in scope': 'an unknown name',
     'exports no such name': 'an unknown name',
-    '`simp`: no equation of the list has an instance': 'the proof no longer fits the code',
-    "`rw`: no occurrence of the path's left endpoint": 'the proof no longer fits the code',
 }
+NOT_THERE = '`simp`: no equation of the list has an instance', "`rw`: no occurrence of the path's left endpoint"
 
 
 def folders(edit):
@@ -28,20 +28,16 @@ def folders(edit):
 
 
 def refusals(log, folder):
-    """(file, message) of each thing refused, in the log's order, the message with the lines that belong to it."""
-    found = []
+    """(file, message) of each thing refused, in the log's order."""
     for line in log.splitlines():
         match = ERROR.match(line)
         if match:
-            found.append([Path(match[1]), match[2] or match[3]])
-        elif found and line.startswith('  '):
-            found[-1][1] += line
-    for path, message in found:
-        yield path.relative_to(folder) if path.is_relative_to(folder) else path, message
+            path = Path(match[1])
+            yield path.relative_to(folder) if path.is_relative_to(folder) else path, match[2] or match[3]
 
 
 def judged(edit):
-    """Why the edit shows nothing, or None; and the file in which the prover first refuses it."""
+    """Why the edit shows nothing, or None; and why it shows little, or None."""
     folder = ROOT / 'target' / 'must-fail' / edit.parts[-3] / edit.stem
     if not (folder / '.log').is_file():
         return 'no log: it was not tried, or no longer fits the text', None
@@ -55,8 +51,12 @@ def judged(edit):
         return 'the log names nothing that was refused', None
     path, message = first
     if path.parts[0] != 'proofs' and not message.startswith('it is not proved that'):
-        return f'an error in {path}, not at a fact: {message[:100]}', path
-    return next((f'{why}, in {path}: {message[:100]}' for words, why in SHAPE.items() if words in message.split('. ')[0]), None), path
+        return f'an error in {path}, not at a fact: {message[:100]}', None
+    head = message.split('. ')[0]
+    fault = next((f'{why}, in {path}: {message[:100]}' for words, why in SHAPE.items() if words in head), None)
+    if path.parent == Path('proofs'):
+        return fault, 'in a file of laws'
+    return fault, 'at an equation that is not in the goal' if any(words in head for words in NOT_THERE) else None
 
 
 def main():
@@ -64,16 +64,18 @@ def main():
     wanted = set(sys.argv[1:])               # crates; all where none is named
     edits = [edit for edit in edits if not wanted or edit.parts[-3] in wanted]
     name = lambda edit: f'{edit.parts[-3]}/{edit.stem}'
-    faults, in_laws = [], []
+    faults, little = [], {}
     for edit in edits:
-        why, path = judged(edit)
-        if why:
-            faults.append(f'{name(edit)}: {why}')
-        elif path.parent == Path('proofs'):
-            in_laws.append(name(edit))
+        fault, less = judged(edit)
+        if fault:
+            faults.append(f'{name(edit)}: {fault}')
+        elif less:
+            little.setdefault(less, []).append(name(edit))
     print('\n'.join(faults) if faults else f'edits: all {len(edits)} are refused at a fact')
+    for less, names in little.items():
+        print(f'  of these first refused {less}: {", ".join(names)}')
     code = sum('src' in folders(edit) for edit in edits)
-    print(f'{code} change the code, {len(edits) - code} a definition or a stated value alone; first refused in a file of laws: {", ".join(in_laws) or "none"}')
+    print(f'  {code} change the code, {len(edits) - code} a definition or a stated value alone')
     sys.exit(bool(faults) or not edits)
 
 

@@ -1,7 +1,8 @@
 """Runs the built program `steptwo` on standard inputs of other lengths and phases than its stored one, and holds what it writes to the second program's
-text, byte for byte. Run it where target/bin/steptwo is built.
+text, byte for byte. Output that cannot be written must be told. Run it where target/bin/steptwo is built.
 """
 
+import os
 import platform
 import struct
 import subprocess
@@ -29,6 +30,18 @@ def inputs():
         yield chance.bytes(24)
 
 
+def unwritten():
+    """Outputs that cannot be written and are not told, by the status or on standard error: a full device, and a pipe that nobody reads, the signal for
+    that ignored or not."""
+    reading, writing = os.pipe()
+    os.close(reading)
+    with open('/dev/full', 'wb') as full, os.fdopen(writing, 'wb') as pipe:
+        for what, output, signals in (('a full device', full, True), ('a closed pipe', pipe, True), ('a closed pipe, no signal', pipe, False)):
+            done = subprocess.run(PROGRAM, input=bytes(24), stdout=output, stderr=subprocess.PIPE, restore_signals=signals)
+            if done.returncode == 0 and not done.stderr:
+                yield f'{what}: status 0, and nothing on standard error'
+
+
 def main():
     faults = []
     given = list(inputs())
@@ -36,7 +49,8 @@ def main():
         done = subprocess.run(PROGRAM, input=data, stdout=subprocess.PIPE)
         if done.returncode != 0 or done.stdout != tides.steptwo_program(data):
             faults.append(f'{len(data)} bytes {data.hex()}: status {done.returncode}, {done.stdout!r}')
-    print('\n'.join(faults) if faults else f'steptwo: as the second program on {len(given)} inputs')
+    faults += unwritten()
+    print('\n'.join(faults) if faults else f'steptwo: as the second program on {len(given)} inputs; output that cannot be written is told')
     sys.exit(bool(faults))
 
 

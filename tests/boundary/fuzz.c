@@ -52,7 +52,9 @@ static uint32_t choice(uint32_t cases)
 static uint32_t field(lent *c, lent *s)
 {
     uint32_t n = one_in(50) ? 4 + (uint32_t)below(57) : 4 + (uint32_t)below(10);
-    size_t size = model_size(n), c_length = size, s_length = size;
+    size_t c_length, s_length;
+    if (one_in(64)) n = one_in(2) ? 3 : 61; /* with lists of that degree's length */
+    c_length = s_length = model_size(n);
     switch (below(64)) {
     case 0: c_length--; break;
     case 1: s_length--; break;
@@ -93,6 +95,21 @@ static double odd_double(void)
     return x;
 }
 
+static double away(double x) { return nextafter(x, 2 * x); }
+
+/* a direction whose squares add, in the order of the rule, to an end of the range about 1 or to the float beyond or before it */
+static void to_length_one(surfgimlet_body *b)
+{
+    double ends[2] = {1 + 0x1p-40, 1 - 0x1p-40}, goal = ends[below(2)], size, total;
+    if (one_in(3)) goal = nextafter(goal, one_in(2) ? 2 : 0);
+    if (b->kind == 0) { b->x /= b->r; b->y /= b->r; b->z /= b->r; }
+    size = sqrt(goal / (b->x * b->x + b->y * b->y + b->z * b->z));
+    b->x *= size; b->y *= size; b->z *= size;
+    for (int i = 0; i < 8 && (total = (b->x * b->x + b->y * b->y) + b->z * b->z) != goal; i++)
+        b->z = total < goal ? away(b->z) : nextafter(b->z, 0);
+    if (b->kind == 0) { b->r = ldexp(1, 27 + (int)below(12)); b->x *= b->r; b->y *= b->r; b->z *= b->r; } /* x/r gives it back */
+}
+
 static surfgimlet_body body(double far, double ratio)
 {
     surfgimlet_body b;
@@ -113,9 +130,45 @@ static surfgimlet_body body(double far, double ratio)
     if (one_in(40)) size *= 1 + (unit() - 0.5) * 0x1p-38;
     b.x /= size; b.y /= size; b.z /= size;
     if (b.kind == 0) { b.x *= b.r; b.y *= b.r; b.z *= b.r; }
+    if (one_in(12)) to_length_one(&b);
     if (one_in(20)) { double *f[5] = {&b.ratio, &b.x, &b.y, &b.z, &b.r}; *f[below(5)] = odd_double(); }
     if (one_in(60)) b.kind = choice(2);
     return b;
+}
+
+/* the masses changed until the product at i, C of the ten places and then S, is the goal, or after a few steps nearly so */
+static void move_to(surfgimlet_body *moon, surfgimlet_body *sun, uint32_t love, int i, double goal)
+{
+    double d[20];
+    for (int step = 0; step < 10; step++) {
+        if (model_products(*moon, *sun, love & 1, d, d + 10) || d[i] == goal || d[i] == 0) return;
+        if (step == 0) { moon->ratio *= goal / d[i]; sun->ratio *= goal / d[i]; }
+        else moon->ratio = fabs(d[i]) < fabs(goal) ? away(moon->ratio) : nextafter(moon->ratio, 0);
+    }
+}
+
+/* two near bodies whose largest product is 2^52 counts, or half a count less, of either sign */
+static void to_the_bound(surfgimlet_body *moon, surfgimlet_body *sun, uint32_t love)
+{
+    double d[20];
+    int largest = 0;
+    moon->kind = sun->kind = 1;
+    moon->ratio = sun->ratio = 1;
+    moon->r = 1e8 * (1 + 0.2 * unit()); sun->r = 1e8 * (1 + 0.2 * unit());
+    if (model_products(*moon, *sun, love & 1, d, d + 10)) return;
+    for (int i = 1; i < 20; i++)
+        if (fabs(d[i]) > fabs(d[largest])) largest = i;
+    move_to(moon, sun, love, largest, copysign(one_in(2) ? 0x1p52 : 0x1p52 - 0.5, d[largest]));
+}
+
+/* a product that is a whole number and a half, or the float next below: there one rounding more or less shows in the count */
+static void to_a_half(surfgimlet_body *moon, surfgimlet_body *sun, uint32_t love)
+{
+    double d[20], half;
+    int i = (int)below(20);
+    if (model_products(*moon, *sun, love & 1, d, d + 10)) return;
+    half = floor(d[i]) + 0.5;
+    move_to(moon, sun, love, i, one_in(2) ? half : nextafter(half, -INFINITY));
 }
 
 static uint8_t *put16(uint8_t *at, uint64_t x) { at[0] = (uint8_t)x; at[1] = (uint8_t)(x >> 8); return at + 2; }
@@ -131,6 +184,13 @@ static size_t sheet(uint8_t *out)
     if (one_in(100)) { lines = 128; tides = 1; }
     if (one_in(100)) { places = 90; top = 12; tides = 1; }
     if (one_in(5000)) { lines = 128; tides = 32; places = 90; top = 12; }
+    if (one_in(40)) switch (below(5)) { /* one beyond a count's range, the length exact for it */
+    case 0: lines = 0; break;
+    case 1: lines = 129; break;
+    case 2: tides = 0; break;
+    case 3: tides = 33; break;
+    case 4: places = 91; top = 13; tides = 1; break;
+    }
     at = put16(at, lines);
     for (uint64_t i = 0; i < 6 * lines; i++) *at++ = (uint8_t)within(one_in(4) ? 13 : 3);
     at = put16(at, tides);
@@ -146,7 +206,7 @@ static size_t sheet(uint8_t *out)
     uint64_t put = 0;
     at += 2;
     for (; n <= top && put < places; m < n ? m++ : (n++, m = 0)) {
-        if (places < 90 && !one_in(top == 12 ? 12 : 3)) continue;
+        if (places < 90 && !one_in(top >= 12 ? 12 : 3)) continue;
         *at++ = (uint8_t)n; *at++ = (uint8_t)m; put++;
         for (uint64_t q = 0; q < 4 * tides; q++) {
             int64_t edge = one_in(2) ? 1 << 24 : -(1 << 24);
@@ -161,13 +221,18 @@ static size_t sheet(uint8_t *out)
     case 2: put16(one_in(2) ? out : count, one_in(2) ? below(200) : any()); break;
     case 3: length -= one_in(2) ? 1 : below(length); break;
     case 4: out[length++] = 0; break;
-    case 5: out[2 + below(6 * lines)] = one_in(2) ? 14 : (uint8_t)-14; break;
-    case 6: { uint8_t *w = out + 4 + 6 * lines + 4 * below(lines * tides); put32(w, one_in(2) ? 4000001 : model_word(w) + 1); } break;
-    case 7: if (put) put32(count + 4 + 4 * below(4 * tides), one_in(2) ? (1 << 24) + 1 : -(1 << 24) - 1); break;
+    case 5: if (lines) out[2 + below(6 * lines)] = one_in(2) ? 14 : (uint8_t)-14; break;
+    case 6:
+        if (lines && tides) {
+            uint8_t *w = out + 4 + 6 * lines + 4 * below(lines * tides);
+            put32(w, one_in(2) ? 4000001 : model_word(w) + 1);
+        }
+        break;
+    case 7: if (put && tides) put32(count + 4 + 4 * below(4 * tides), one_in(2) ? (1 << 24) + 1 : -(1 << 24) - 1); break;
     case 8: if (put) count[2 + (2 + 16 * tides) * below(put)] = (uint8_t)below(15); break;
     case 9: if (put) count[3 + (2 + 16 * tides) * below(put)] = (uint8_t)below(15); break;
     }
-    if (one_in(100)) { length = below(64); for (size_t i = 0; i < length; i++) out[i] = (uint8_t)any(); }
+    if (one_in(100)) { length = one_in(8) ? 0 : below(64); for (size_t i = 0; i < length; i++) out[i] = (uint8_t)any(); }
     return length;
 }
 
@@ -200,25 +265,48 @@ static void over_field(int call)
     memcpy(&c2, &c, sizeof c); memcpy(&s2, &s, sizeof s);
     if (call == OCEAN_TIDE) {
         size_t length = sheet(bytes);
-        const uint8_t *b = at_the_edge(bytes, length);
+        const uint8_t *b = length ? at_the_edge(bytes, length) : NULL;
         surfgimlet_phases f = phases();
         uint32_t frame = choice(2);
         memcpy(kept, bytes, length);
-        answer = surfgimlet_ocean_tide(n, entries(&c), c.length, entries(&s), s.length, b, length, f, frame);
+        answer = surfgimlet_ocean_tide(n, or_null(&c), c.length, or_null(&s), s.length, b, length, f, frame);
         told = model_ocean_tide(n, entries(&c2), c2.length, entries(&s2), s2.length, kept, length, f, frame);
-        if (memcmp(b, kept, length)) { differences++; puts("ocean_tide: the sheet is changed"); }
+        if (length && memcmp(b, kept, length)) { differences++; puts("ocean_tide: the sheet is changed"); }
     } else if (call == STEP_ONE) {
         surfgimlet_body moon = body(3.8e8, 0.0123), sun = body(1.5e11, 332946);
         uint32_t love = choice(2);
-        answer = surfgimlet_step_one(n, entries(&c), c.length, entries(&s), s.length, moon, sun, love);
+        if (one_in(2)) to_a_half(&moon, &sun, love);
+        if (one_in(10)) to_the_bound(&moon, &sun, love);
+        answer = surfgimlet_step_one(n, or_null(&c), c.length, or_null(&s), s.length, moon, sun, love);
         told = model_step_one(n, entries(&c2), c2.length, entries(&s2), s2.length, moon, sun, love);
     } else {
         surfgimlet_phases f = phases();
         uint32_t love = choice(2);
-        answer = surfgimlet_step_two(n, entries(&c), c.length, entries(&s), s.length, f, love);
+        answer = surfgimlet_step_two(n, or_null(&c), c.length, or_null(&s), s.length, f, love);
         told = model_step_two(n, entries(&c2), c2.length, entries(&s2), s2.length, f, love);
     }
     expect(call, answer, told, same(&c, &c2) && same(&s, &s2));
+}
+
+/* sine and cosine in their units, read from a sheet of 16 tides of 4 times the wave of tau, 2^24 counts each; every second phase lies
+ * near an odd eighth's start, where the last terms of the recipe weigh most */
+static void waves(long count)
+{
+    uint8_t bytes[2 + 6 + 2 + 16 * 4 + 2 + 2 + 16 * 16] = {1, 0, 1}, *at = put16(bytes + 8, 16);
+    for (int k = 0; k < 16; k++) at = put32(at, 4000000);
+    at = put16(at, 1);
+    *at++ = 2; *at++ = 2;
+    for (int k = 0; k < 16; k++) at = put32(put32(put32(put32(at, 1 << 24), 0), 0), 1 << 24);
+    for (long i = 0; i < count; i++) {
+        int64_t c[15] = {0}, s[15] = {0}, c2[15] = {0}, s2[15] = {0};
+        surfgimlet_phases b = {0, 0, 0, 0, 0, 0};
+        uint32_t answer;
+        b.tau = (uint32_t)any();
+        if (i & 1) b.tau = ((b.tau >> 29 | 1) << 29) + (uint32_t)within(1 << 27);
+        answer = surfgimlet_ocean_tide(4, c, 15, s, 15, bytes, sizeof bytes, b, 0);
+        c2[5] = model_cosine(b.tau); s2[5] = model_sine(b.tau);
+        expect(OCEAN_TIDE, answer, 0, !memcmp(c, c2, sizeof c) && !memcmp(s, s2, sizeof s));
+    }
 }
 
 static uint32_t a_number(void)
@@ -264,6 +352,7 @@ int main(int argc, char **argv)
     static const int numbers[CALLS][12] = {{0, 1, 2, 3, 4, 5, 6, 100, -1}, {0, 1, 2, 100, -1}, {0, 1, 2, 7, 8, 9, 100, -1},
         {0, 2, 100, -1}, {0, 10, -1}, {0, 10, -1}, {0, 10, 11, -1}};
     long count = argc > 1 ? atol(argv[1]) : 1000000, missing = 0;
+    waves(200000);
     for (long i = 0; i < count; i++) {
         uint64_t pick = below(20);
         if (pick < 8) over_field(OCEAN_TIDE);
@@ -279,6 +368,6 @@ int main(int argc, char **argv)
         }
         puts("");
     }
-    printf("fuzz: %ld inputs, %ld differences, %ld answers never met\n", count, differences, missing);
+    printf("fuzz: 200000 waves, %ld inputs, %ld differences, %ld answers never met\n", count, differences, missing);
     return differences != 0 || missing != 0;
 }

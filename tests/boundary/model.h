@@ -1,4 +1,4 @@
-/* The unit's calls in plain C, written from the description alone: what the fuzz run and the bench hold the archive to.
+/* The unit's calls in plain C, written from the description alone: what the fuzz run holds the archive to.
  * Whole numbers throughout, doubles only in step one, each operation rounded once (compile with -ffp-contract=off). */
 #ifndef MODEL_H
 #define MODEL_H
@@ -208,18 +208,16 @@ static int64_t model_count(double x)
     return (int64_t)below + (x - below >= 0.5);
 }
 
-static uint32_t model_step_one(uint32_t n, int64_t *c, size_t c_length, int64_t *s, size_t s_length,
-                               surfgimlet_body moon, surfgimlet_body sun, uint32_t love)
+/* dC and dS times 10^15 of the ten places, degrees 2, 3 and 4 in turn; or the refusal of a body */
+static uint32_t model_products(surfgimlet_body moon, surfgimlet_body sun, uint32_t love, double dc[10], double ds[10])
 {
     static const double real[2][7] = {{0.29525, 0.29470, 0.29801, 0.093, 0.093, 0.093, 0.094},
                                       {0.30190, 0.29830, 0.30102, 0.093, 0.093, 0.093, 0.094}};
     static const double imaginary[2][7] = {{0}, {0, -0.00144, -0.00130}};
     static const double plus[2][3] = {{-0.00087, -0.00079, -0.00057}, {-0.00089, -0.00080, -0.00057}};
-    double mp[7], mq[7], sp[7], sq[7], dc[10], ds[10];
+    double mp[7], mq[7], sp[7], sq[7];
     model_direction m, b;
     uint32_t refusal;
-    if (love > 1 || moon.kind > 1 || sun.kind > 1) return 100;
-    if ((refusal = model_field(n, c, c_length, s, s_length))) return refusal;
     if ((refusal = model_see(moon, &m))) return refusal;
     if ((refusal = model_see(sun, &b))) return refusal;
     model_body(moon, m, mp, mq);
@@ -234,6 +232,17 @@ static uint32_t model_step_one(uint32_t n, int64_t *c, size_t c_length, int64_t 
             ds[7 + i] = (plus[love][i] * q) * 1e15;
         }
     }
+    return 0;
+}
+
+static uint32_t model_step_one(uint32_t n, int64_t *c, size_t c_length, int64_t *s, size_t s_length,
+                               surfgimlet_body moon, surfgimlet_body sun, uint32_t love)
+{
+    double dc[10], ds[10];
+    uint32_t refusal;
+    if (love > 1 || moon.kind > 1 || sun.kind > 1) return 100;
+    if ((refusal = model_field(n, c, c_length, s, s_length))) return refusal;
+    if ((refusal = model_products(moon, sun, love, dc, ds))) return refusal;
     for (int i = 0; i < 10; i++)
         if (!(dc[i] > -0x1p52 && dc[i] < 0x1p52 && ds[i] > -0x1p52 && ds[i] < 0x1p52)) return 6;
     for (int i = 0; i < 10; i++) {
@@ -276,7 +285,7 @@ static uint32_t model_layout(const uint8_t *b, size_t length, model_sheet *t)
     return t->places <= 90 && length == at + t->places * (2 + 16 * t->tides) ? 0 : 7;
 }
 
-/* no early end: a sheet is nearly always right, and without branches the tests go several values at a time */
+/* whether every value, every row's total and the order of the places is right */
 static int model_values(const model_sheet *t)
 {
     size_t wide = 2 + 16 * t->tides;

@@ -5,7 +5,16 @@
 #include "lent.h"
 #include "surfgimlet.h"
 
-static long cases, differences;
+#define LEAST 15000 /* cases, so that an input cut short is noticed */
+
+enum { STEP_ONE, STEP_TWO, OCEAN_TIDE, MOVE_C20, MULTIPLIERS_OF, NUMBER_OF, FIND_LINE, CALLS };
+static const char *names[CALLS] = {"step_one", "step_two", "ocean_tide", "move_c20", "multipliers_of", "number_of", "find_line"};
+static const int numbers[CALLS][10] = {{0, 1, 2, 3, 4, 5, 6, 100, -1}, {0, 1, 2, 100, -1}, {0, 1, 2, 7, 8, 9, 100, -1},
+    {0, 2, 100, -1}, {0, 10, -1}, {0, 10, -1}, {0, 10, 11, -1}};
+static long answered[CALLS][101], cases, differences;
+
+static uint32_t n;
+static lent c, s, told_c, told_s; /* the field lent, and what it must hold after the call */
 
 static int64_t word(void)
 {
@@ -39,83 +48,121 @@ static surfgimlet_body body(void)
     return b;
 }
 
-static void list(lent *l, size_t length)
+/* entries, each after its index */
+static void change(lent *l)
 {
-    lend(l, length);
-    for (size_t i = 0; i < length; i++) entries(l)[i] = word();
+    for (int64_t left = word(); left > 0; left--) {
+        int64_t i = word();
+        entries(l)[i] = word();
+    }
 }
 
-static void expect(const char *call, uint32_t answer, uint32_t number, int as_told)
+/* a list: its length, the entry that most places have, and the others */
+static void list(lent *l)
+{
+    int64_t most;
+    lend(l, (size_t)word());
+    most = word();
+    for (size_t i = 0; i < l->length; i++) entries(l)[i] = most;
+    change(l);
+}
+
+static void expect(int call, uint32_t answer, uint32_t number, int as_told)
 {
     cases++;
+    answered[call][number]++;
     if (answer == number && as_told) return;
-    differences++;
-    printf("%s, case %ld: answered %" PRIu32 ", told %" PRIu32 "%s\n", call, cases, answer, number, as_told ? "" : ", and an entry or a guard differs");
+    if (differences++ < 20)
+        printf("%s, case %ld: answered %" PRIu32 ", told %" PRIu32 "%s\n", names[call], cases, answer, number,
+               as_told ? "" : ", and an entry or a guard differs");
 }
 
-static void over_field(const char *call)
+static size_t sheet(uint8_t *bytes)
 {
-    static lent c, s, c2, s2;
-    static char hex[140000];
-    static uint8_t sheet[70000];
-    uint32_t n = (uint32_t)word(), choice, number, answer;
-    size_t c_length = (size_t)word(), s_length = (size_t)word(), length = 0;
-    surfgimlet_phases b = {0, 0, 0, 0, 0, 0};
-    surfgimlet_body moon = {0, 0, 0, 0, 0, 0}, sun = moon;
-    choice = (uint32_t)word();
-    if (call[5] == 'o') { moon = body(); sun = body(); } else b = phases();
-    if (call[0] == 'o') {
-        length = (size_t)word();
-        if (scanf("%139999s", hex) != 1) { puts("values: a sheet is missing"); exit(1); }
-        for (size_t i = 0; i < length; i++) {
-            char pair[3] = {hex[2 * i], hex[2 * i + 1], 0};
-            sheet[i] = (uint8_t)strtoul(pair, NULL, 16);
-        }
+    static char hex[200000];
+    size_t length = (size_t)word();
+    if (scanf("%199999s", hex) != 1) { puts("values: a sheet is missing"); exit(1); }
+    for (size_t i = 0; i < length; i++) {
+        char pair[3] = {hex[2 * i], hex[2 * i + 1], 0};
+        bytes[i] = (uint8_t)strtoul(pair, NULL, 16);
     }
-    list(&c, c_length); list(&s, s_length);
+    return length;
+}
+
+static void over_field(int call)
+{
+    static uint8_t bytes[100000];
+    uint32_t choice = (uint32_t)word(), number, answer;
+    if (call == STEP_ONE) {
+        surfgimlet_body moon = body(), sun = body();
+        answer = surfgimlet_step_one(n, or_null(&c), c.length, or_null(&s), s.length, moon, sun, choice);
+    } else if (call == STEP_TWO) {
+        surfgimlet_phases b = phases();
+        answer = surfgimlet_step_two(n, or_null(&c), c.length, or_null(&s), s.length, b, choice);
+    } else {
+        surfgimlet_phases b = phases();
+        size_t length = sheet(bytes);
+        answer = surfgimlet_ocean_tide(n, or_null(&c), c.length, or_null(&s), s.length, length ? bytes : NULL, length, b, choice);
+    }
     number = (uint32_t)word();
-    list(&c2, c_length); list(&s2, s_length);
-    if (call[0] == 'o')
-        answer = surfgimlet_ocean_tide(n, entries(&c), c_length, entries(&s), s_length, sheet, length, b, choice);
-    else if (call[5] == 'o')
-        answer = surfgimlet_step_one(n, entries(&c), c_length, entries(&s), s_length, moon, sun, choice);
-    else
-        answer = surfgimlet_step_two(n, entries(&c), c_length, entries(&s), s_length, b, choice);
-    expect(call, answer, number, same(&c, &c2) && same(&s, &s2));
+    change(&told_c); change(&told_s);
+    expect(call, answer, number, same(&c, &told_c) && same(&s, &told_s));
+    memcpy(&c, &told_c, sizeof c); memcpy(&s, &told_s, sizeof s);
+}
+
+static void alone(int call)
+{
+    results got = fresh(), told = fresh();
+    uint32_t answer, number;
+    if (call == MOVE_C20) {
+        int64_t c20 = word();
+        uint32_t from = (uint32_t)word(), to = (uint32_t)word(), love = (uint32_t)word();
+        answer = surfgimlet_move_c20(c20, from, to, love, &got.moved);
+        number = (uint32_t)word();
+        if (number == 0) told.moved = word();
+    } else if (call == MULTIPLIERS_OF) {
+        answer = surfgimlet_multipliers_of((uint32_t)word(), got.multipliers);
+        number = (uint32_t)word();
+        for (int i = 0; number == 0 && i < 6; i++) told.multipliers[i] = (int32_t)word();
+    } else if (call == NUMBER_OF) {
+        int32_t m[6];
+        for (int i = 0; i < 6; i++) m[i] = (int32_t)word();
+        answer = surfgimlet_number_of(m, &got.number);
+        number = (uint32_t)word();
+        if (number == 0) told.number = (uint32_t)word();
+    } else {
+        answer = surfgimlet_find_line((uint32_t)word(), &got.index, &got.first, &got.second);
+        number = (uint32_t)word();
+        if (number == 0) { told.index = (size_t)word(); told.first = word(); told.second = word(); }
+    }
+    expect(call, answer, number, same_results(&got, &told));
 }
 
 int main(void)
 {
-    char call[32];
-    while (scanf("%31s", call) == 1) {
-        results got = fresh(), told = fresh();
-        uint32_t answer, number;
-        if (!strcmp(call, "move_c20")) {
-            int64_t c20 = word();
-            uint32_t from = (uint32_t)word(), to = (uint32_t)word(), love = (uint32_t)word();
-            answer = surfgimlet_move_c20(c20, from, to, love, &got.moved);
-            number = (uint32_t)word();
-            if (number == 0) told.moved = word();
-        } else if (!strcmp(call, "multipliers_of")) {
-            answer = surfgimlet_multipliers_of((uint32_t)word(), got.multipliers);
-            number = (uint32_t)word();
-            for (int i = 0; number == 0 && i < 6; i++) told.multipliers[i] = (int32_t)word();
-        } else if (!strcmp(call, "number_of")) {
-            int32_t m[6];
-            for (int i = 0; i < 6; i++) m[i] = (int32_t)word();
-            answer = surfgimlet_number_of(m, &got.number);
-            number = (uint32_t)word();
-            if (number == 0) told.number = (uint32_t)word();
-        } else if (!strcmp(call, "find_line")) {
-            answer = surfgimlet_find_line((uint32_t)word(), &got.index, &got.first, &got.second);
-            number = (uint32_t)word();
-            if (number == 0) { told.index = (size_t)word(); told.first = word(); told.second = word(); }
-        } else {
-            over_field(call);
+    long missing = 0;
+    char name[32];
+    while (scanf("%31s", name) == 1) {
+        int call = 0;
+        if (!strcmp(name, "field")) {
+            n = (uint32_t)word();
+            list(&c); list(&s);
+            memcpy(&told_c, &c, sizeof c); memcpy(&told_s, &s, sizeof s);
             continue;
         }
-        expect(call, answer, number, same_results(&got, &told));
+        while (call < CALLS && strcmp(name, names[call])) call++;
+        if (call == CALLS) { printf("values: no call is named %s\n", name); return 1; }
+        if (call <= OCEAN_TIDE) over_field(call);
+        else alone(call);
     }
-    printf("values: %ld cases, %ld differences\n", cases, differences);
-    return cases < 5000 || differences != 0;
+    for (int call = 0; call < CALLS; call++) {
+        printf("values: %s answered", names[call]);
+        for (const int *k = numbers[call]; *k >= 0; k++) {
+            printf(" %d %ld times,", *k, answered[call][*k]);
+            missing += answered[call][*k] == 0;
+        }
+        puts("");
+    }
+    printf("values: %ld cases, %ld differences, %ld answers never met\n", cases, differences, missing);
+    return cases < LEAST || differences != 0 || missing != 0;
 }

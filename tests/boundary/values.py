@@ -1,239 +1,407 @@
-"""Writes the second program's answers, as words, for values.c: `python3 values.py > FILE`.
+"""Writes calls and the second program's answers to them, as words, for values.c: `python3 values.py > FILE`.
 
-A case is the call's name, what is given, the number answered, and every lent entry afterwards. Floats are their bits.
+`field`, a degree and two lists lend a field; the calls after it are made on it in turn. A call is its name, what is given (floats as their bits),
+the number answered, and the results, or for each list the entries changed. All other entries must stay as they were.
 """
 
-import os
-import random
 import struct
 import sys
+from collections import Counter
+from itertools import product
+from math import inf, ldexp, nextafter
+from pathlib import Path
 
-sys.path.insert(0, os.path.join(os.path.dirname(os.path.abspath(__file__)), '..', '..', 'second'))
+sys.path.insert(0, str(Path(__file__).resolve().parents[2] / 'second'))
+import given as g
+import telling
 import tides as t
+from chance import Chance
 
 LOVES = (t.ELASTIC, t.ANELASTIC)
 FRAMES = (t.FIGURE, t.MASS)
 SYSTEMS = (t.TIDE_FREE, t.ZERO, t.MEAN)
 KINDS = (t.RECTANGULAR, t.DIRECTION)
 NO_SUCH_CHOICE = 100
-NOT_A_CHOICE = (2, 3, 255, 256, 2**31, 2**32 - 1)        # 2 names a system, and nothing else
-BOUND = t.FIELD_BOUND
-rng = random.Random(1)
+NO_CHOICES = (3, 255, 256, 1 << 31, (1 << 31) + 1, g.U32)
+ZEROS = 4, [0] * 15, [0] * 15
+HALVES = 120             # Moons and Suns for each coefficient and Love model
+
+chance = Chance(19960621)
 
 
-def say(*words):
-    print(*words)
+# --- Calls: what is given, by the numbers that C uses for the choices ---
+
+def step_one(moon, sun, love):
+    return 'step_one', love, *((KINDS.index(kind), ratio, *floats) for ratio, (kind, *floats) in (moon, sun))
+
+
+def step_two(phases, love):
+    return 'step_two', love, phases
+
+
+def ocean_tide(data, phases, frame):
+    return 'ocean_tide', frame, phases, data
+
+
+def either(call, *args):
+    """The call with either Love model or frame."""
+    return [call(*args, 0), call(*args, 1)]
+
+
+# --- The second program's answers ---
+
+def named(cases, number):
+    return cases[number] if number < len(cases) else None
+
+
+def on_field(call, N, C, S):
+    """(number, C after, S after) of a call on a field."""
+    name, choice, *rest = call
+    if name == 'step_one':
+        love, kinds = named(LOVES, choice), [named(KINDS, one[0]) for one in rest]
+        if love and all(kinds):
+            return t.step_one(N, C, S, *((ratio, (kind, *floats)) for kind, (_, ratio, *floats) in zip(kinds, rest)), love)
+    elif name == 'step_two':
+        if named(LOVES, choice):
+            return t.step_two(N, C, S, rest[0], named(LOVES, choice))
+    elif named(FRAMES, choice):
+        return t.ocean(N, C, S, rest[1], rest[0], named(FRAMES, choice))
+    return NO_SUCH_CHOICE, C, S
+
+
+def alone(name, *args):
+    """The number and the results of a call without a field."""
+    if name == 'move_c20':
+        c20, have, want, love = args
+        choices = named(SYSTEMS, have), named(SYSTEMS, want), named(LOVES, love)
+        number, moved = t.move_c20(c20, *choices) if all(choices) else (NO_SUCH_CHOICE, None)
+        return number, (moved,)
+    if name == 'number_of':
+        number, written = t.doodson_write(args)
+        return number, (written,)
+    return {'multipliers_of': t.doodson_read, 'find_line': t.find_line}[name](*args)
+
+
+# --- As words ---
+
+def listed(entries):
+    """A list: its length, the entry that most places have, and the others, each after its index."""
+    most = Counter(entries).most_common(1)[0][0] if entries else 0
+    others = [(i, entry) for i, entry in enumerate(entries) if entry != most]
+    return len(entries), most, len(others), *(word for other in others for word in other)
+
+
+def changes(before, after):
+    assert len(before) == len(after)
+    changed = [(i, new) for i, (old, new) in enumerate(zip(before, after)) if old != new]
+    return len(changed), *(word for change in changed for word in change)
 
 
 def bits(x):
     return struct.unpack('<Q', struct.pack('<d', x))[0]
 
 
-def ways(*options):
-    return rng.choice(options)
+def given_words(call):
+    name, choice, *rest = call
+    if name == 'step_one':
+        return name, choice, *(word for kind, *floats in rest for word in (kind, *map(bits, floats)))
+    if name == 'step_two':
+        return name, choice, *rest[0]
+    return name, choice, *rest[0], len(rest[1]), rest[1].hex() or '-'
 
 
-# --- what is given: mostly right, and the edges of each refusal
-
-def entry():
-    return ways(0, BOUND, -BOUND, rng.randint(-BOUND, BOUND), rng.randint(-10**9, 10**9), rng.randint(-10**9, 10**9))
-
-
-def field(n=None):
-    """A degree and two lists, one in four with a fault."""
-    n = rng.choice((4, 4, 5, 8, 12, 12, 20)) if n is None else n
-    C, S = ([entry() for _ in range(t.size(n))] for _ in 'CS')
-    fault = rng.randrange(32)
-    if fault == 0:
-        n = ways(0, 3, 61, 2**32 - 1)
-    elif fault == 1:
-        C.pop()
-    elif fault == 2:
-        S.append(0)
-    elif fault == 3:
-        n += ways(1, -1)
-    elif fault == 4:
-        C, S = ways(([], []), (C, []), ([], S))
-    elif fault in (5, 6):
-        rng.choice((C, S))[ways(0, rng.randrange(15), -1)] = ways(BOUND + 1, -BOUND - 1, 2**63 - 1, -2**63)
-    elif fault == 7:
-        C.pop()
-        S[0] = BOUND + 1
-    return n, C, S
+def words(case):
+    """The lines of a case: a field and calls on it, or one call without a field."""
+    if isinstance(case[0], str):
+        number, results = alone(*case)
+        yield *case, number, *(() if number else results)
+        return
+    (N, C, S), calls = case
+    yield 'field', N, *listed(C), *listed(S)
+    for call in calls:
+        number, C2, S2 = on_field(call, N, C, S)
+        yield *given_words(call), number, *changes(C, C2), *changes(S, S2)
+        C, S = C2, S2
 
 
-def phase():
-    return ways(0, 2**29, 2**30, 2**31, 3 * 2**30, 2**32 - 1, rng.randrange(2**32), rng.randrange(2**32), rng.randrange(2**32))
+# --- Calls without a field ---
+
+def numbers():
+    edges = [0, 1, 9, 10, 99_999, 100_000, 555_555, 999_998, 999_999, 1_000_000, 1_000_001, 1_165_555, (1 << 31) - 1, 1 << 31, g.U32]
+    near = [number + d for number, _, _ in t.PRINTED for d in (0, -1, 1, -10, 10, -100, 100, 100_000, 1_000_000)]
+    for number in edges + near + [chance.below(1_000_000) for _ in range(300)] + [chance.below(1 << 32) for _ in range(30)]:
+        yield 'multipliers_of', number
+        yield 'find_line', number
+    for number, _, _ in t.PRINTED:
+        yield 'number_of', *t.doodson_read(number)[1]
+    lowest, highest = (0, -5, -5, -5, -5, -5), (9, 4, 4, 4, 4, 4)
+    for start in (lowest, highest, g.NONE):
+        yield 'number_of', *start
+        for place, value in product(range(6), (-6, -5, -1, 0, 4, 5, 9, 10, 256, g.LEAST_32, -1 - g.LEAST_32)):
+            yield 'number_of', *g.spoilt(start, place, value)
+    for _ in range(300):
+        yield 'number_of', *map(chance.between, lowest, highest)
+        yield 'number_of', *(chance.between(low - chance.one_in(9), high + chance.one_in(9)) for low, high in zip(lowest, highest))
+    ends = [sign * (g.EDGE + d) for sign in (1, -1) for d in (-1, 0, 1)]
+    for have, want, love in product(range(3), range(3), range(2)):
+        for c20 in (0, 1, -484165143790, *ends, g.LEAST_64, -1 - g.LEAST_64, chance.between(-g.EDGE, g.EDGE)):
+            yield 'move_c20', c20, have, want, love
+            number, (moved,) = alone('move_c20', c20, have, want, love)
+            if number == 0:
+                yield 'move_c20', moved, want, have, love               # and back
+    for c20, bad in product((0, g.EDGE + 1), NO_CHOICES):
+        yield 'move_c20', c20, bad, 0, 0
+        yield 'move_c20', c20, 0, bad, 1
+        yield 'move_c20', c20, 2, 1, bad
+        yield 'move_c20', c20, 1, 2, 2
 
 
-def phases():
-    return tuple(phase() for _ in range(6))
+# --- Fields ---
+
+def fields(call):
+    """Refusals 1 and 2 before all others, for a call; the entries at the range's ends pass."""
+    for N in (0, 1, 2, 3, 61, 62, 1 << 16, 1 << 31, g.U32):
+        for size in sorted({0, 10, 15, t.size(60), t.size(N) if N < 63 else 0}):
+            yield (N, [5] * size, [6] * size), [call]
+    for N in (4, 5, 59, 60):
+        size = t.size(N)
+        for c, s in [*product((size - 1, size, size + 1), repeat=2), (0, 0), (size, 0), (0, size), *((t.size(N + d),) * 2 for d in (-1, 1))]:
+            yield (N, [5] * c, [6] * s), [call]
+        yield (N, [g.EDGE + 1] * size, [0] * (size - 1)), [call]        # 1 before 2
+        fine = [7] * size
+        for entry in (g.EDGE, g.EDGE + 1, -g.EDGE, -g.EDGE - 1, g.LEAST_64, -1 - g.LEAST_64):
+            for i in (0, size - 1, 3, chance.below(size)):
+                yield (N, g.spoilt(fine, i, entry), fine), [call, call]
+                yield (N, fine, g.spoilt(fine, i, entry)), [call, call]
+    for N in range(4, 61):
+        yield g.any_field(chance, N), [call, call]                      # and again on its own result
+    name, choice, *rest = call
+    for bad in (2, *NO_CHOICES):                                        # 100 before all others
+        wrong = name, bad, *rest
+        yield ZEROS, [wrong, call, wrong]
+        yield (3, *ZEROS[1:]), [wrong]
+        yield (4, [g.EDGE + 1] * 15, [0] * 15), [wrong]
 
 
-def length_one():
-    u, v, w = (rng.gauss(0, 1) for _ in range(3))
-    if rng.randrange(6) == 0:
-        u, v, w = ways((1.0, 0.0, 0.0), (0.0, -1.0, 0.0), (0.0, 0.0, 1.0), (0.6, 0.8, 0.0), (0.6, 0.0, -0.8))
-    size = (u * u + v * v + w * w) ** 0.5
-    return u / size, v / size, w / size
+# --- Step one ---
+
+def some_love():
+    return chance.below(2)
 
 
-def body(r, ratio):
-    kind = rng.choice(KINDS)
-    r *= rng.uniform(0.9, 1.1)
-    numbers = list(length_one())
-    fault = rng.randrange(24)
-    if fault == 0:
-        r = ways(1e8, 1e12, 99999999.99999999, 1000000000000.0001, 0.0, -1e9)
-    elif fault == 1:
-        ratio = ways(1e6, 1000000.0000000001, 0.0, -0.0, 5e-324, -1.0)
-    elif fault == 2:
-        numbers[rng.randrange(3)] += ways(2e-12, -2e-12, 1e-13, 0.1)
-    if kind == t.RECTANGULAR:
-        numbers = [x * r for x in numbers]
-    if fault == 3:
-        numbers[rng.randrange(3)] = ways(float('inf'), float('-inf'), float('nan'), 1e308)
-    elif fault == 4:
-        r, ratio = ways((float('nan'), ratio), (r, float('inf')), (float('inf'), ratio), (r, float('nan')))
-    elif fault == 5:
-        r, ratio = 1e8, ways(1e6, 1e5, 1e4)
-    return ratio, (kind, *numbers, r)
+def bodies():
+    """Refusals 3, 4 and 5 of either body, the Moon's before the Sun's, the lowest of one body; and 100, 1 and 2 before them."""
+    faults = g.faulty_bodies()
+    field = g.varied_field(chance, 4)
+    for number, fault in faults:
+        assert t.body_test(fault) == number
+        other, good = chance.one(*faults)[1], chance.one(*g.GOOD)
+        yield field, [*either(step_one, fault, good), *either(step_one, good, fault), step_one(fault, other, 0), step_one(other, fault, 1)]
+    for one in g.GOOD:
+        for first, second in (((0, -1.0), (3, inf)), ((4, 1.0), (1, inf)), ((4, inf), (0, inf)), ((4, 1.0), (1, 7e9)), ((0, 0.0), (2, 7e9))):
+            worse = g.spoilt_body(g.spoilt_body(one, *first), *second)
+            yield field, [step_one(worse, one, 0), step_one(one, worse, 1), step_one(worse, worse, 1)]
+    for number, fault in faults[::9]:
+        yield (3, *field[1:]), [step_one(fault, fault, 0)]
+        yield (4, g.spoilt(field[1], 0, g.EDGE + 1), field[2]), [step_one(fault, fault, 0)]
+        for bad in NO_CHOICES:
+            name, love, moon, sun = step_one(fault, fault, some_love())
+            yield ZEROS, [(name, love, (bad, *moon[1:]), sun), (name, love, moon, (bad, *sun[1:]))]
 
 
-def sheet():
-    lines, tides, places = rng.randint(1, 6), rng.randint(1, 4), rng.randint(0, 8)
-    if rng.randrange(20) == 0:
-        lines, tides, places = ways((128, 32, 90), (128, 1, 0), (1, 32, 90), (1, 1, 90))
-    signed = lambda size: ways(rng.randint(-size, size), rng.randint(-size, size), size, -size, 0)
-    rows = []
-    for _ in range(tides):
-        row = [signed(4 * t.MILLION // lines) for _ in range(lines)]
-        rows.append(row)
-    where = sorted(rng.sample([(n, m) for n in range(1, 13) for m in range(n + 1)], places))
-    if rng.randrange(3):
-        where = [(n, m) for n, m in where if n <= 4]
-    quads = [[[signed(2**24) if m or not q & 1 else 0 for q in range(4)] for _ in range(tides)] for _, m in where]
-    body = [[rng.choice((-13, 13, 0, 1, 2, rng.randint(-13, 13))) for _ in range(6)] for _ in range(lines)]
-    fault = rng.randrange(32)
-    if fault == 0:
-        rng.choice(body)[rng.randrange(6)] = ways(14, -14, 127, -128)
-    elif fault == 1:
-        row = rng.choice(rows)
-        row[:] = [4 * t.MILLION - (lines - 1)] + [1] * (lines - 1)
-        row[rng.randrange(lines)] += ways(0, 1, -1)
-    elif fault == 2:
-        rng.choice(rows)[rng.randrange(lines)] = ways(-2**31, 2**31 - 1)
-    elif fault == 3 and where:
-        rng.choice(rng.choice(quads))[rng.randrange(4)] = ways(2**24 + 1, -2**24 - 1, -2**31, 2**24)
-    elif fault == 4 and where:
-        rng.choice(rng.choice(quads))[ways(1, 3)] = 1
-    elif fault == 5 and where:
-        i = rng.randrange(len(where))
-        where[i] = ways((0, 0), (13, 0), (where[i][0], where[i][0] + 1), where[-1], where[0])
-    data = struct.pack('<H', lines) + b''.join(struct.pack('<6b', *line) for line in body)
-    data += struct.pack('<H', tides) + b''.join(struct.pack(f'<{lines}i', *row) for row in rows)
-    data += struct.pack('<H', len(where))
-    data += b''.join(struct.pack(f'<2B{4 * tides}i', *at, *sum(quad, [])) for at, quad in zip(where, quads))
-    fault = rng.randrange(24)
-    if fault == 0:
-        data = data[:rng.randrange(len(data))]
-    elif fault == 1:
-        data = data[:-1]
-    elif fault == 2:
-        data += b'\0'
-    elif fault == 3:
-        data = ways(b'', b'\0', b'\1\0', struct.pack('<H', 0) + data[2:], struct.pack('<H', 129) + data[2:])
-    elif fault == 4:
-        at = rng.randrange(len(data))
-        data = data[:at] + bytes([rng.randrange(256)]) + data[at + 1:]
-    return data
+def body_edges():
+    """The last floats that pass 4 and 5 and the next beyond, for either body."""
+    for r, ratio, axis, kind in product((1e8, nextafter(1e8, inf), nextafter(1e12, 0), 1e12), (5e-324, 1e-310, 0.1), g.AXES[:3], KINDS):
+        one = ratio, g.placed(kind, *axis, r)
+        yield ZEROS, [step_one(one, g.GOOD[0], some_love()), step_one(g.GOOD[1], one, some_love())]
+    for ratio, kind in product((nextafter(1e6, 0), 1e6, nextafter(1e6, inf)), KINDS):
+        one = ratio, g.placed(kind, *g.AXES[3], 1e12)
+        yield ZEROS, [*either(step_one, one, g.GOOD[1]), *either(step_one, g.GOOD[0], one)]
+    for axis, kind in product(g.AXES, KINDS):
+        one = 0.5, g.placed(kind, *axis, 1e9)
+        yield ZEROS, [*either(step_one, one, g.GOOD[0]), *either(step_one, g.GOOD[1], one), *either(step_one, one, one)]
+    high, low = 1.0 + ldexp(1.0, -40), 1.0 - ldexp(1.0, -40)
+    for goal in (high, nextafter(high, 2), nextafter(high, 0), low, nextafter(low, 0), nextafter(low, 2)):
+        for i in range(24):                                             # r a power of two, so that x/r gives the direction back
+            one = 0.01, g.placed(KINDS[i % 2], *telling.at_length_one(chance, goal), ldexp(1.0, chance.between(27, 39)))
+            assert t.body_test(one) == (0 if low <= goal <= high else 5)
+            yield ZEROS, [step_one(one, g.GOOD[0], some_love()), step_one(g.GOOD[1], one, some_love())]
+    for at, size, sign in product((1, 2, 3), (1.0 + ldexp(1.0, -41), 1.0 - ldexp(1.0, -41)), (1, -1)):
+        for x in (size, nextafter(size, 2), nextafter(size, 0)):
+            one = g.spoilt_body((1.0, (t.DIRECTION, 0.0, 0.0, 0.0, 1e9)), at, sign * x)
+            yield ZEROS, [step_one(one, g.GOOD[0], some_love()), step_one(g.GOOD[0], one, some_love())]
 
 
-def choice(cases):
-    """A number for C, and the case it names or None."""
-    number = rng.randrange(len(cases)) if rng.randrange(12) else ways(len(cases), *NOT_A_CHOICE)
-    return number, cases[number] if number < len(cases) else None
+def bounds_of_six():
+    """Every coefficient of degree 2 at 2^52 and at -2^52, refused, and half a count inside, where it passes; and 3, 4, 5 before 6."""
+    for coefficient, love, sign, _ in product(telling.COEFFICIENTS[:5], LOVES, (1, -1), range(4)):
+        for size in (t.COUNT_BOUND, t.COUNT_BOUND - 0.5):
+            moon, sun = telling.at_the_bound(chance, coefficient, love, sign * size)
+            yield ZEROS, [step_one(moon, sun, LOVES.index(love)), step_one(sun, moon, LOVES.index(love))]
+    for axis in g.AXES:
+        heavy = 1e6, g.placed(t.DIRECTION, *axis, 1e8)
+        for other in (g.GOOD[0], g.spoilt_body(g.GOOD[0], 1, 7.0), g.spoilt_body(g.GOOD[1], 0, 0.0), heavy, g.sun(chance)):
+            yield ZEROS, [*either(step_one, heavy, other), *either(step_one, other, heavy)]
 
 
-# --- the calls
-
-def over_field(name, n, C, S, given, answered):
-    """One line: given, the lists before, the answer, the lists after."""
-    number, C2, S2 = answered
-    say(name, n, len(C), len(S), *given, *C, *S, number, *C2, *S2)
-
-
-def step_one():
-    n, C, S = field()
-    love, model = choice(LOVES)
-    bodies = [body(3.8e8, 0.0123), body(1.5e11, 332946.0)]
-    kinds = [choice(KINDS)[0] if rng.randrange(20) == 0 else KINDS.index(b[1][0]) for b in bodies]
-    named = model is not None and max(kinds) < 2
-    bodies = [(b[0], (KINDS[k] if named else None, *b[1][1:])) for b, k in zip(bodies, kinds)]
-    answered = t.step_one(n, C, S, *bodies, model) if named else (NO_SUCH_CHOICE, C, S)
-    given = [x for b, k in zip(bodies, kinds) for x in (k, bits(b[0]), *map(bits, b[1][1:]))]
-    over_field('step_one', n, C, S, [love, *given], answered)
+def halves():
+    """Counts at a half, for each coefficient and Love model; twelve calls on a field."""
+    for coefficient, love in product(telling.COEFFICIENTS, LOVES):
+        found = [telling.at_a_half(chance, coefficient, love) for _ in range(HALVES)]
+        for i in range(0, HALVES, 12):
+            yield ZEROS, [step_one(*bodies, LOVES.index(love)) for bodies in found[i:i + 12]]
 
 
-def step_two():
-    n, C, S = field()
-    love, model = choice(LOVES)
-    b = phases()
-    over_field('step_two', n, C, S, [love, *b], t.step_two(n, C, S, b, model) if model else (NO_SUCH_CHOICE, C, S))
+def ordinary_bodies():
+    for _ in range(150):
+        moon, sun = g.moon(chance), g.sun(chance)
+        calls = [*either(step_one, moon, sun), *either(step_one, sun, moon), *either(step_two, g.phases(chance))]
+        yield g.varied_field(chance, chance.between(4, 12)), calls
+    moon, sun = g.moon(chance), g.sun(chance)
+    for N in (4, 5, 17, 60):                                            # on its own result, and refused with 2 where that left the range
+        yield (N, [g.EDGE] * t.size(N), [-g.EDGE] * t.size(N)), either(step_one, moon, sun) * 2
+        yield g.any_field(chance, N), either(step_one, moon, sun) * 2
 
 
-def ocean_tide(data=None):
-    n, C, S = field()
-    number, frame = choice(FRAMES)
-    b = phases()
-    data = sheet() if data is None else data
-    answered = t.ocean(n, C, S, data, b, frame) if frame else (NO_SUCH_CHOICE, C, S)
-    over_field('ocean_tide', n, C, S, [number, *b, len(data), data.hex() or '-'], answered)
+# --- Step two ---
+
+def lines():
+    yield ZEROS, either(step_two, g.NONE) + either(step_two, (1 << 30, 0, 0, 0, 0, 0)) + either(step_two, (g.U32,) * 6)
+    for place, k, d in product(range(6), range(8), (-1, 0, 1)):         # each argument at the edges of the eighths
+        yield ZEROS, either(step_two, tuple(g.spoilt(g.NONE, place, (k << 29) + d & g.U32)))
+    for place in range(6):                                              # each argument alone
+        yield ZEROS, [call for _ in range(8) for call in either(step_two, tuple(g.spoilt(g.NONE, place, chance.below(1 << 32))))]
+    for phases in telling.tie_phases():
+        yield ZEROS, either(step_two, phases)
+    for _ in range(200):
+        yield g.varied_field(chance, chance.between(4, 8)), either(step_two, g.phases(chance))
+    for N in (4, 5, 17, 60):
+        calls = either(step_two, g.phases(chance))
+        yield (N, [g.EDGE] * t.size(N), [-g.EDGE] * t.size(N)), calls * 2
+        yield g.any_field(chance, N), calls * 2
 
 
-def move_c20():
-    c20 = ways(0, BOUND, -BOUND, BOUND + 1, -BOUND - 1, 2**63 - 1, -2**63, rng.randint(-BOUND, BOUND))
-    (a, have), (b, want), (k, love) = choice(SYSTEMS), choice(SYSTEMS), choice(LOVES)
-    number, moved = t.move_c20(c20, have, want, love) if have and want and love else (NO_SUCH_CHOICE, None)
-    say('move_c20', c20, a, b, k, number, *([] if number else [moved]))
+# --- Ocean tide ---
+
+def some_ocean(data):
+    return ocean_tide(data, g.phases(chance), chance.below(2))
 
 
-def multipliers_of(value):
-    number, multipliers = t.doodson_read(value)
-    say('multipliers_of', value, number, *(multipliers or ()))
+def layouts():
+    """Refusal 7: every short length, some long ones, counts changed, and counts at their ends with the length that is exact for them."""
+    good = g.write_sheet(*g.SMALL)
+    field = g.varied_field(chance, 5)
+    yield field, [some_ocean(good), some_ocean(good[:-1]), some_ocean(good)]
+    yield field, [some_ocean(good[:cut]) for cut in range(len(good))]
+    yield field, [some_ocean(good + longer) for longer in (b'\0', b'\xff', good)]
+    for at, count in product((0, 14, 40), (0, 1, 2, 3, 4, 32, 33, 90, 91, 128, 129, 258, 259, 65535)):
+        yield field, [some_ocean(good[:at] + struct.pack('<H', count) + good[at + 2:])]
+    wide = g.varied_field(chance, 13)
+    shapes = [*product((0, 1, 128, 129), (0, 1, 32, 33), (0, 1)), *product((1, 2), (1, 3), (90, 91, 92))]
+    for shape in [*shapes, (128, 32, 90), (129, 33, 91), (256, 1, 1), (1, 256, 0)]:
+        yield wide, [some_ocean(g.shaped_sheet(*shape))]
+    for count, _ in product((0, 1, 2, 10, 20, 40, 80, 120), range(6)):
+        yield field, [some_ocean(chance.bytes(count))]
+    for _ in range(200):                                                # one byte changed
+        at = chance.below(len(good))
+        yield field, [some_ocean(good[:at] + chance.bytes(1) + good[at + 1:])]
 
 
-def number_of(multipliers):
-    number, value = t.doodson_write(multipliers)
-    say('number_of', *multipliers, number, *([] if number else [value]))
+def sheet_values():
+    """Refusals 8 and 9, with 7 before 8, 8 before 9, and 100, 1 and 2 before all of them."""
+    fields = {N: g.varied_field(chance, N) for N in range(4, 13)}
+    for sheet in g.faulty_sheets():
+        data = g.write_sheet(*sheet)
+        yield fields[12], [some_ocean(data), some_ocean(data + b'\1'), some_ocean(data[:-1])]
+        yield fields[4], [some_ocean(data)]
+    rows, zero = [[0, 0]], [(0,) * 4]
+    for N in range(4, 13):
+        deep = g.write_sheet(g.SMALL[0], rows, [(2, 3, zero), (12, 12, zero)])
+        yield fields[N], [some_ocean(deep), some_ocean(deep[:-1])]
+        for n, m in product(range(1, 13), (0, 1)):
+            yield fields[N], [some_ocean(g.write_sheet(g.SMALL[0], [[1000, 7]], [(n, m, [(5, 0, 6, 0)])]))]
+            yield fields[N], [some_ocean(g.write_sheet(g.SMALL[0], [[1000, 7]], [(1, 0, [(3, 0, 4, 0)]), (n, n, [(1 << 20,) * 4])]))]
+    for data in (b'', g.write_sheet(*g.SMALL), g.write_sheet([(14,) * 6], [[0]], [])):
+        yield (3, *ZEROS[1:]), [some_ocean(data)]
+        yield (4, [0] * 15, [0] * 14 + [-g.EDGE - 1]), [some_ocean(data)]
+        yield ZEROS, [('ocean_tide', bad, g.NONE, data) for bad in (2, *NO_CHOICES)]
 
 
-def find_line(value):
-    number, found = t.find_line(value)
-    say('find_line', value, number, *(found or ()))
+def synthesis():
+    """Sheets of every kind, on fields of every kind, in both frames."""
+    for _ in range(250):
+        top = chance.one(2, 4, 6, 12)
+        data = g.write_sheet(*g.sheet(chance, chance.between(1, 6), chance.between(1, 4), chance.between(0, 8), top))
+        calls = either(ocean_tide, data, g.phases(chance))
+        yield g.varied_field(chance, max(4, chance.between(top - chance.one_in(8), 14))), calls * (1 + chance.one_in(4))
+        yield g.any_field(chance, chance.between(4, 14)), calls
+    for sizes in ((128, 1, 90), (40, 2, 90), (128, 32, 0), (1, 32, 2), (128, 4, 10), (128, 32, 90)):
+        yield g.any_field(chance, 60), either(ocean_tide, g.write_sheet(*g.sheet(chance, *sizes)), g.phases(chance))
+    two = [(1, 0, 0, 0, 0, 0), (-13, 0, 0, 0, 0, 13)]
+    data = g.write_sheet(two, [[1_000_000, 3_000_000]], [(3, 3, [(1 << 24, 1, -1, -(1 << 24))])])
+    for k, d in product(range(8), (-1, 0, 1)):                          # the edges of the eighths
+        yield ZEROS, either(ocean_tide, data, ((k << 29) + d & g.U32, 0, 0, 0, 0, k << 29))
+    for place, multiplier in product(range(6), range(-13, 14)):         # each multiplier at each argument
+        data = g.write_sheet([g.spoilt(g.NONE, place, multiplier)], [[1_000_000]], [(2, 1, [(1 << 24, 0, 0, 1 << 24)])])
+        yield ZEROS, [ocean_tide(data, g.phases(chance), 0)]
+    for admittance, phase in product((500_000, -500_000, 1_500_000, -2_500_000), (5, 6, 7, 0, 1 << 30, 1 << 31, 3 << 30)):     # ties
+        data = g.write_sheet([(1, 0, 0, 0, 0, 0)], [[admittance]], [(2, 1, [(1 << 24, 1, 3, 1 << 24)]), (2, 2, [(1, 3, -1, -3)])])
+        yield ZEROS, [ocean_tide(data, (phase, 0, 0, 0, 0, 0), 0)]
 
 
-for _ in range(1000):
-    step_one()
-    step_two()
-    ocean_tide()
-    move_c20()
-for line, *_ in t.PRINTED:
-    for near in (line - 1, line, line + 1, line + 10):
-        find_line(near)
-        multipliers_of(near)
-for value in (0, 99999, 100000, 999999, 1000000, 2**31, 2**32 - 1):
-    find_line(value)
-    multipliers_of(value)
-for _ in range(300):
-    multipliers_of(rng.randrange(1100000))
-    number_of([rng.randint(0, 9), *(rng.randint(-5, 4) for _ in range(5))])
-    number_of([ways(-1, 0, 9, 10, -2**31, 2**31 - 1), *(ways(-6, -5, 0, 4, 5, 2**31 - 1) if rng.randrange(8) == 0 else 0 for _ in range(5))])
-# the whole of case P9
-nine = bytes([1, 0, 2, 0, 0, 0, 0, 0, 1, 0]) + struct.pack('<i', t.MILLION) + struct.pack('<H2B4i', 1, 2, 2, 1000, 0, 0, -500)
-for data in (nine, nine[:-1], nine + b'\0'):
-    ocean_tide(data)
-# a full field and a full sheet's longest lists
-for n in (59, 60):
-    C, S = [BOUND] * t.size(n), [-BOUND] * t.size(n)
-    over_field('step_two', n, C, S, [1, *[2**30] * 6], t.step_two(n, C, S, (2**30,) * 6, t.ANELASTIC))
+def wave_of(value, counts):
+    """A millionth of a wave of this many units, as the sine that C21 takes and the cosine that S21 takes, by each pair of counts for C and S."""
+    at = telling.sine_phase(value)
+    if at is not None:
+        data = g.write_sheet([(1, 0, 0, 0, 0, 0), (0, 1, 0, 0, 0, 0)], [[1, 0], [0, 1]] * len(counts),
+                             [(2, 1, [quad for c, s in counts for quad in ((0, 0, c, 0), (0, s, 0, 0))])])
+        yield ZEROS, [ocean_tide(data, (at % t.TURN, (at - t.UNIT) % t.TURN, 0, 0, 0, 0), 0)]
+
+
+def ocean_ties():
+    """Both roundings of the ocean tide at a tie, and one unit before it: that of the sums over lines, then that of the sums over tides."""
+    for factor, rest in product(range(-23, 24, 4), (499_999, 500_000)):                             # a quarter of the factor is added: 1/4, or 2/4
+        yield from wave_of(factor * t.MILLION + rest, [(1 << 24, 1 << 24)] * 16)
+    for factor, count in ((233, 2304167), (256, 1 << 21), (177, -3033169), (256, -(1 << 21))):      # 2^29 - 1, 2^29, -2^29 - 1, -2^29
+        for near in range(4):
+            yield from wave_of(factor * t.MILLION + near, [(count, count)])
+
+
+def waves():
+    """Sine and cosine in their units, at the eighths' edges and at phases that tell slips of the recipe."""
+    edges = [(k << 29) + d & g.U32 for k in range(8) for d in (-2, -1, 0, 1, 2)]
+    for phase in edges + [*telling.wave_phases()] + [chance.below(1 << 32) for _ in range(300)]:
+        call = ocean_tide(g.wave_sheet(), (phase, 0, 0, 0, 0, 0), 0)
+        number, C, S = on_field(call, *ZEROS)
+        assert (number, C[5], S[5]) == (0, t.cosine(phase), t.sine(phase))
+        yield ZEROS, [call]
+
+
+# --- Cases of the description, and a day ---
+
+def printed():
+    nine = g.write_sheet([(2, 0, 0, 0, 0, 0)], [[1_000_000]], [(2, 2, [(1000, 0, 0, -500)])])
+    for tau, data in product((0, 1 << 29), (nine, nine[:33], nine + b'\0')):
+        yield ZEROS, either(ocean_tide, data, (tau, 0, 0, 0, 0, 0))
+    yield ZEROS, [step_one(*telling.DAY_BODIES, 1), step_two(telling.DAY_PHASES, 1)]
+
+
+def cases():
+    """Every case, the calls that tell most before the others."""
+    yield from printed()
+    yield from numbers()
+    low = g.write_sheet(*g.SMALL[:2], g.SMALL[2][:2])                   # its places of degree 1 alone
+    for call in (step_one(*g.GOOD, 1), step_two((1, 2, 3, 4, 5, 6), 1), ocean_tide(low, (6, 5, 4, 3, 2, 1), 0)):
+        yield from fields(call)
+    for part in (bodies, body_edges, bounds_of_six, ordinary_bodies, halves, lines, layouts, sheet_values, synthesis, ocean_ties, waves):
+        yield from part()
+
+
+def main():
+    for case in cases():
+        for line in words(case):
+            print(*line)
+
+
+if __name__ == '__main__':
+    main()

@@ -1,8 +1,9 @@
 -- Document 01, "Step one" and "Refusal numbers": bodies, places, directions, and refusals 3, 4 and 5.
 use mathlib.Core.Bool.{Bool, _&&_, cond}
 use Prim.Native.Nat.{_^_}
-use lib.Ieee.{Float, lt, le}
+use lib.Ieee.{Float, le}
 use Rattle.doubles.specs.Doubles.{_*·_, _/·_, _+·_, _-·_, decimal, minus-decimal, number, finite}
+use Rattle.limits.specs.Limits.{isDistance, isRatio}
 use Rattle.refusals.specs.Told.{Told}
 use Rattle.refusals.specs.Numbers.{refusalNumber}
 use Rattle.refusals.specs.Told.Told.{accepted, refused}
@@ -22,8 +23,14 @@ directionOf (Directional u v w r) = record { u = u; v = v; w = w; r = r }
 abbrev pub excess : Direction → Float
 excess d = d .u *· d .u +· d .v *· d .v +· d .w *· d .w -· number 1
 
+abbrev pub tolerance : Float
+tolerance = decimal 1 (2 ^ 40)
+
+abbrev pub minus-tolerance : Float
+minus-tolerance = minus-decimal 1 (2 ^ 40)
+
 unfoldable pub ofLengthOne : Direction → Bool
-ofLengthOne d = le (minus-decimal 1 (2 ^ 40)) (excess d) && le (excess d) (decimal 1 (2 ^ 40))
+ofLengthOne d = le minus-tolerance (excess d) && le (excess d) tolerance
 
 -- 3: "a float of a place or mass ratio not finite"
 abbrev pub allFinite : Float → Float → Float → Float → Bool
@@ -38,7 +45,7 @@ finiteBody b = finitePlace (b .place) && finite (b .ratio)
 
 -- 4: "distance outside 10^8..10^12 m, or ratio not above 0 and at most 10^6"
 unfoldable pub inReach : Float → Float → Bool
-inReach r ratio = le (number (10 ^ 8)) r && le r (number (10 ^ 12)) && lt (number 0) ratio && le ratio (number (10 ^ 6))
+inReach r ratio = isDistance r && isRatio ratio
 
 -- 5: "direction not of length one". The lowest number that applies is answered.
 unfoldable pub sighted : Body → Told Direction

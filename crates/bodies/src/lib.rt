@@ -2,6 +2,8 @@
 ghost use mathlib.Core.Path.{_≡_};
 ghost use Rattle.bodies.specs.Bodies.{allFinite, finitePlace, finiteBody, inReach, directionOf, ofLengthOne, sighted, tells};
 use doubles::is_finite;
+use limits::is_distance;
+use limits::is_ratio;
 use refusals::Refusal;
 
 // 2^-40
@@ -72,7 +74,7 @@ fn is_finite_body(body: Body) -> bool
 fn is_in_reach(r: f64, ratio: f64) -> bool
     ensures { λ b. ⌜ b ≡ inReach r ratio ⌝ }
 {
-    (100000000.0 <= r) & (r <= 1000000000000.0) & (0.0 < ratio) & (ratio <= 1000000.0)
+    is_distance(r) & is_ratio(ratio)
 }
 
 fn is_of_length_one(d: Direction) -> bool

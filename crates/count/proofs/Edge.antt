@@ -7,33 +7,35 @@ use native.Mathlib.Omega.{arith}
 use lib.IntN.{ℤ, pos, natAbs, negℤ, _*ℤ_, _-ℤ_}
 use lib.Dec.{T, eqb, ltb→lt}
 use lib.Pow.{pow-add, pow-pos, pow-mono}
-use lib.Ieee.{Float, nan, inf, fin, binary64, up, down, lt, odd, ofFields, ofBits, toBits, fits, isNan}
+use lib.Ieee.{Float, nan, inf, fin, binary64, up, down, lt, odd, ofFields, ofBits, toBits, fits, isNan, round}
 use lib.Ieee.Bits.{ofBits-toBits}
 use lib.Ieee.Exact.{HasValue, odd-sign}
 use lib.Ieee.Fits.{and-l, and-r, down-pos}
 use Rattle.whole.specs.Nearest.{nearest}
 use Rattle.whole.proofs.Parts.{abs, abs-le, abs-product, difference, up-neg, dn-neg}
 use Rattle.whole.proofs.Rounding.{nearest-near}
-use Rattle.count.specs.Count.{signed, count, countable, edge, minus-edge}
+use Rattle.limits.specs.Limits.{isCountable}
+use Rattle.doubles.specs.Doubles.{number, minus-number}
+use Rattle.count.specs.Count.{signed, count}
 
-pub no-nan : (x : Float) → T (countable x) → T (not (isNan x))
-unfolding lt isNan
+pub no-nan : (x : Float) → T (isCountable x) → T (not (isNan x))
+unfolding lt round isNan
 no-nan nan h = absurd h
 no-nan (inf s) h = tt
 no-nan (fin s m e) h = tt
 
 -- ---- the size
-below-edge : (s : Bool) (m : ℕ) (e : ℤ) → T (countable (fin s m e)) → m * up e < 2 ^ 52 * down e
-unfolding lt
-below-edge false m e h = omega (arith, ltb→lt (m * up e * 1) (1 * 2 ^ 52 * down e) (and-r (lt minus-edge (fin false m e)) (lt (fin false m e) edge) h))
-below-edge true m e h = omega (arith, ltb→lt (m * up e * 1) (1 * 2 ^ 52 * down e) (and-l (lt minus-edge (fin true m e)) (lt (fin true m e) edge) h))
+below-edge : (s : Bool) (m : ℕ) (e : ℤ) → T (isCountable (fin s m e)) → m * up e < 2 ^ 52 * down e
+unfolding lt round
+below-edge false m e h = omega (arith, ltb→lt (m * up e * 1) (1 * 2 ^ 52 * down e) (and-r (lt (minus-number (2 ^ 52)) (fin false m e)) (lt (fin false m e) (number (2 ^ 52))) h))
+below-edge true m e h = omega (arith, ltb→lt (m * up e * 1) (1 * 2 ^ 52 * down e) (and-l (lt (minus-number (2 ^ 52)) (fin true m e)) (lt (fin true m e) (number (2 ^ 52))) h))
 
 -- n / d is below 2^52, and is a / l
 within : (n d a l : ℕ) → 0 < l → n < 2 ^ 52 * d → n * l ≡ a * d → a < 2 ^ 52 * l
 within n d a l L h v =
     lt-of-mul-lt-mul-right d (lt-of-le-of-lt (le-of-eq (sym v)) (lt-of-lt-of-le (mul-lt-mul-of-pos-right h L) (le-of-eq (mul-right-comm (2 ^ 52) d l))))
 
-sized : (x : Float) (s : Bool) (a : ℕ) → T (countable x) → HasValue x s a (2 ^ 1074) → a < 2 ^ 52 * 2 ^ 1074
+sized : (x : Float) (s : Bool) (a : ℕ) → T (isCountable x) → HasValue x s a (2 ^ 1074) → a < 2 ^ 52 * 2 ^ 1074
 sized nan s a h v = absurd v
 sized (inf t) s a h v = absurd v
 sized (fin t m e) s a h v = within (m * up e) (down e) a (2 ^ 1074) (pow-pos 1074) (below-edge t m e h) (v .1)
@@ -42,18 +44,18 @@ sized (fin t m e) s a h v = within (m * up e) (down e) a (2 ^ 1074) (pow-pos 107
 pow-lt-back : (i p : ℕ) → 2 ^ i < 2 ^ p → i < p
 pow-lt-back i p h = lt-of-not-le (λ (g : p ≤ i). lt-irrefl (2 ^ i) (lt-of-lt-of-le h (pow-mono g)))
 
-no-infinity : (c s : Bool) → T (countable (cond c (inf s) nan)) → ⊥
-unfolding lt
+no-infinity : (c s : Bool) → T (isCountable (cond c (inf s) nan)) → ⊥
+unfolding lt round
 no-infinity true true h = h
 no-infinity true false h = h
 no-infinity false s h = h
 
-field-lt : (s : Bool) (x t : ℕ) → T (countable (ofFields binary64 s x t)) → x < 1075
+field-lt : (s : Bool) (x t : ℕ) → T (isCountable (ofFields binary64 s x t)) → x < 1075
 unfolding ofFields
 field-lt s zero t h = omega arith
 field-lt s (suc j) t h = go (eqb (suc j) 2047) h
   where
-    go : (b : Bool) → T (countable (cond b (cond (eqb t 0) (inf s) nan) (odd 53 s (2 ^ 52 + t) j 1074))) → suc j < 1075
+    go : (b : Bool) → T (isCountable (cond b (cond (eqb t 0) (inf s) nan) (odd 53 s (2 ^ 52 + t) j 1074))) → suc j < 1075
     go true k = absurd (no-infinity (eqb t 0) s k)
     go false k =
         let a : (2 ^ 52 + t) * 2 ^ j < 2 ^ 1126 = sized (odd 53 s (2 ^ 52 + t) j 1074) s ((2 ^ 52 + t) * 2 ^ j) k (odd-sign 53 s (2 ^ 52 + t) j 1074) in
@@ -61,11 +63,11 @@ field-lt s (suc j) t h = go (eqb (suc j) 2047) h
         let c : 52 + j < 1126 = pow-lt-back (52 + j) 1126 b in
         omega arith
 
-pub field-of : (x : Float) → T (fits binary64 x) → T (countable x) → toBits binary64 x % 2 ^ 63 / 2 ^ 52 < 1075
+pub field-of : (x : Float) → T (fits binary64 x) → T (isCountable x) → toBits binary64 x % 2 ^ 63 / 2 ^ 52 < 1075
 unfolding ofBits
 field-of x f h =
     let b = toBits binary64 x in
-    field-lt _ (b % 2 ^ 63 / 2 ^ 52) (b % 2 ^ 52) (subst (λ (y : Float). T (countable y)) (sym (ofBits-toBits binary64 x f)) h)
+    field-lt _ (b % 2 ^ 63 / 2 ^ 52) (b % 2 ^ 52) (subst (λ (y : Float). T (isCountable y)) (sym (ofBits-toBits binary64 x f)) h)
 
 -- ---- the count
 abs-signed : (s : Bool) (n : ℕ) → natAbs (signed s n) ≡ n
@@ -83,7 +85,7 @@ small c z n h k =
     let a : natAbs c * n < (2 ^ 52 + 1) * n = omega (arith, abs-product c (pos n)) in
     omega (arith, lt-of-mul-lt-mul-right n a)
 
-pub count-small : (x : Float) → T (countable x) → natAbs (count x) ≤ 2 ^ 52
+pub count-small : (x : Float) → T (isCountable x) → natAbs (count x) ≤ 2 ^ 52
 unfolding count
 count-small nan h = omega arith
 count-small (inf s) h = omega arith

@@ -1,30 +1,27 @@
 -- The count of the float that a sign, an exponent's field and the digits stand for.
 use mathlib.Core.Path.{_≡_, sym, ap, _∙_, subst}
-use mathlib.Core.Bool.{Bool, true, false}
+use mathlib.Core.Bool.{Bool, true, false, not}
 use Prim.Native.Nat.{ℕ, zero, suc, _+_, _-_, _*_, _/_, _%_, _^_, _≤_, _<_}
 use native.Mathlib.Nat.{lt-of-mul-lt-mul-right, mul-comm, mul-right-comm, eq-of-mul-eq-mul-right, mul-lt-mul-of-pos-right, lt-of-lt-of-le, not-suc-le-zero, mod-lt}
 use native.Mathlib.Omega.{arith}
 use lib.IntN.{pos}
-use lib.Dec.{leb}
+use lib.Dec.{T, leb, ltb, ltb→lt, nltb→le}
 use lib.Pow.{pow-add, pow-pos, pow-mono, shl-lt}
 use lib.Ieee.{Float, nan, inf, fin, binary64, up, down, odd, ofFields, ofBits}
 use lib.Ieee.Fits.{down-pos}
 use lib.Ieee.Exact.{HasValue, odd-sign}
-use borrow.Author.Tests.{ne-eqb, lt-leb, le-leb}
+use borrow.Author.Tests.{ne-eqb}
 use Rattle.whole.specs.Nearest.{nearest}
 use Rattle.count.specs.Count.{signed, count}
-use Rattle.count.proofs.Halves.{rounded, nearest-is, nearest-none}
+use Rattle.count.proofs.Halves.{rounded, nearest-same, nearest-is, nearest-none, rounded-none}
 
 -- ---- the value q * 2^j / 2^1074, with h + 1 places after the point
 module _ (n d q j h : ℕ) (J : j + (h + 1) ≡ 1074) (v : n * 2 ^ 1074 ≡ q * 2 ^ j * d) where
-  apart : 2 ^ 1074 ≡ 2 ^ j * (2 ^ h * 2)
-  apart = ap (λ (k : ℕ). 2 ^ k) (sym J) ∙ pow-add 2 j (h + 1) ∙ ap (λ (k : ℕ). 2 ^ j * k) (pow-add 2 h 1)
-
-  cross : (n + n) * 2 ^ h ≡ q * d
-  cross = eq-of-mul-eq-mul-right (2 ^ j) (pow-pos j) ((n + n) * 2 ^ h) (q * d)
-      (turn n (2 ^ j) (2 ^ h) ∙ ap (λ (k : ℕ). n * k) (sym apart) ∙ v ∙ mul-right-comm q (2 ^ j) d)
+  cross : n * 2 ^ (h + 1) ≡ q * d
+  cross = eq-of-mul-eq-mul-right (2 ^ j) (pow-pos j) (n * 2 ^ (h + 1)) (q * d)
+      (turn n (2 ^ j) (2 ^ (h + 1)) ∙ ap (λ (k : ℕ). n * k) (sym (pow-add 2 j (h + 1)) ∙ ap (λ (k : ℕ). 2 ^ k) J) ∙ v ∙ mul-right-comm q (2 ^ j) d)
     where
-      turn : (a b c : ℕ) → (a + a) * c * b ≡ a * (b * (c * 2))
+      turn : (a b c : ℕ) → a * c * b ≡ a * (b * c)
       turn a b c = omega arith
 
 count-is : (x : Float) (s : Bool) (q j h : ℕ) → j + (h + 1) ≡ 1074 → 0 < q → HasValue x s (q * 2 ^ j) (2 ^ 1074) → count x ≡ rounded s q h
@@ -32,7 +29,9 @@ unfolding count
 count-is nan s q j h J Q v = absurd v
 count-is (inf t) s q j h J Q v = absurd v
 count-is (fin t m e) s q j h J Q v =
-    ap (λ (b : Bool). nearest (signed b (m * up e)) (down e)) (v .0) ∙ nearest-is (m * up e) (down e) q h (down-pos e) Q (cross (m * up e) (down e) q j h J (v .1)) s
+    ap (λ (b : Bool). nearest (signed b (m * up e)) (down e)) (v .0)
+    ∙ nearest-same (m * up e) (down e) q (2 ^ (h + 1)) (down-pos e) (pow-pos (h + 1)) (cross (m * up e) (down e) q j h J (v .1)) s
+    ∙ nearest-is q h Q s
 
 -- ---- the value a / 2^1074, below one half
 under : (n d a p : ℕ) → 0 < d → a < p → n * (p * 2) ≡ a * d → n + n < d
@@ -74,9 +73,9 @@ small-field s (suc x) t T52 h =
     let l : (2 ^ 52 + t) * 2 ^ x < 2 ^ 1073 = lt-of-lt-of-le (shl-lt 53 x (with-lead t T52)) (pow-mono {i = 53 + x} {j = 1073} (omega arith)) in
     count-none (ofFields binary64 s (suc x) t) s ((2 ^ 52 + t) * 2 ^ x) l (value-at s x t (omega arith))
 
-large-field : (s : Bool) (x t : ℕ) → 1021 ≤ x → x < 1075 → count (ofFields binary64 s x t) ≡ rounded s (2 ^ 52 + t) (1074 - x)
-large-field s zero t lo hi = absurd (not-suc-le-zero lo)
-large-field s (suc x) t lo hi = count-is (ofFields binary64 s (suc x) t) s (2 ^ 52 + t) x (1074 - suc x) (omega arith) (omega arith) (value-at s x t (omega arith))
+large-field : (s : Bool) (x t h : ℕ) → 0 < x → h + x ≡ 1074 → count (ofFields binary64 s x t) ≡ rounded s (2 ^ 52 + t) h
+large-field s zero t h lo e = absurd (not-suc-le-zero lo)
+large-field s (suc x) t h lo e = count-is (ofFields binary64 s (suc x) t) s (2 ^ 52 + t) x h (omega arith) (omega arith) (value-at s x t (omega arith))
 
 -- ---- the bits
 module _ (b : ℕ) where
@@ -86,15 +85,16 @@ module _ (b : ℕ) where
   abbrev pub digits : ℕ
   digits = 2 ^ 52 + b % 2 ^ 52
 
-  pub none-is : field < 1021 → count (ofBits binary64 b) ≡ pos 0
+  pub count-of-bits : (h : ℕ) → (1011 ≤ field → h + field ≡ 1074) → (field < 1011 → h ≡ 63) → count (ofBits binary64 b) ≡ rounded (leb (2 ^ 63) b) digits h
   unfolding ofBits
-  none-is h = small-field (leb (2 ^ 63) b) field (b % 2 ^ 52) (mod-lt b (pow-pos 52)) h
+  count-of-bits h near far = go (ltb field 1011) (ltb→lt field 1011) (nltb→le field 1011)
+    where
+      lead : digits < 2 ^ 53
+      lead = with-lead (b % 2 ^ 52) (mod-lt b (pow-pos 52))
 
-  module _ (lo : 1021 ≤ field) (hi : field < 1075) where
-    pub above-is : b < 2 ^ 63 → count (ofBits binary64 b) ≡ rounded false digits (1074 - field)
-    unfolding ofBits
-    above-is h = large-field (leb (2 ^ 63) b) field (b % 2 ^ 52) lo hi ∙ ap (λ (s : Bool). rounded s digits (1074 - field)) (lt-leb (2 ^ 63) b h)
+      sign : Bool
+      sign = leb (2 ^ 63) b
 
-    pub below-is : 2 ^ 63 ≤ b → count (ofBits binary64 b) ≡ rounded true digits (1074 - field)
-    unfolding ofBits
-    below-is h = large-field (leb (2 ^ 63) b) field (b % 2 ^ 52) lo hi ∙ ap (λ (s : Bool). rounded s digits (1074 - field)) (le-leb (2 ^ 63) b h)
+      go : (t : Bool) → (T t → field < 1011) → (T (not t) → 1011 ≤ field) → count (ofFields binary64 sign field (b % 2 ^ 52)) ≡ rounded sign digits h
+      go true small large = let l = small tt in rw (far l) (small-field sign field (b % 2 ^ 52) (mod-lt b (pow-pos 52)) (omega arith) ∙ sym (rounded-none sign digits lead))
+      go false small large = let l = large tt in large-field sign field (b % 2 ^ 52) h (omega arith) (near l)

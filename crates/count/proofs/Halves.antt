@@ -1,117 +1,88 @@
--- The nearest whole number of a fraction ± n / d, from the digits of its size: all that this crate knows of the rule of rounding.
-use mathlib.Core.Path.{_≡_, sym, ap, _∙_, subst}
-use mathlib.Core.Bool.{Bool, true, false, cond, not}
-use mathlib.Core.Logic.{inl, inr}
+-- The nearest whole number of a fraction ± n / d from the digits of its size: of equal fractions it is the same, and over a power of two it is a shift.
+use mathlib.Core.Path.{_≡_, sym, ap, _∙_}
+use mathlib.Core.Bool.{Bool, true, false}
 use Prim.Native.Nat.{ℕ, zero, suc, _+_, _-_, _*_, _/_, _^_, _≤_, _<_}
-use native.Mathlib.Nat.{le-antisymm, div-lt-iff-lt-mul, div-eq-of-lt, add-div-right, div-div-eq-div-mul, lt-irrefl, mul-comm, le-of-suc-le-suc, mul-le-mul-right, le-of-mul-le-mul-right, le-trans, le-of-eq, mul-right-comm, eq-zero-or-pos, mul-lt-mul-of-pos-right}
+use native.Mathlib.Nat.{le-antisymm, div-mul-le-self, le-div-iff-mul-le, div-eq-of-lt, add-div-right, div-div-eq-div-mul, mul-comm, mul-le-mul-right, lt-of-not-le}
+use native.Mathlib.Numerals.{unary-clauses}
 use native.Mathlib.Omega.{arith}
-use lib.IntN.{ℤ, pos, negsuc, negℤ, subℕ}
-use lib.Signed.{shrZ}
-use lib.Dec.{T, ltb, ltb→lt, nltb→le}
-use lib.Pow.{pow-pos}
-use lib.Ieee.Nearest.{div-same}
+use lib.IntN.{ℤ, pos, negℤ}
+use lib.Pow.{pow-add, pow-pos}
 use Rattle.whole.specs.Nearest.{nearest}
+use Rattle.whole.proofs.Rounding.{nearest-above, nearest-below}
 use Rattle.count.specs.Count.{signed}
 
--- t halves, rounded up to whole ones
-abbrev pub half-of : ℕ → ℕ
-half-of t = (t + 1) / 2
+-- ---- n / d is q / m
+-- what a half falls short by: nothing above zero, one below
+module _ (n d q m : ℕ) (D : 0 < d) (M : 0 < m) (same : n * m ≡ q * d) where
+  -- n / d, rounded, is k or more; so is q / m
+  crossed : (e k : ℕ) → e ≤ 1 → 2 * (k * d) + e ≤ 2 * n + d → 2 * (k * m) + e ≤ 2 * q + m
+  crossed zero k E h =
+      let l : 2 * (k * m) < 2 * q + m + 1 =
+      lt-of-not-le (λ (g : 2 * q + m + 1 ≤ 2 * (k * m)). omega (arith, mul-le-mul-right m h, mul-le-mul-right d g)) in
+      omega arith
+  crossed (suc zero) k E h =
+      let l : 2 * (k * m) < 2 * q + m =
+      lt-of-not-le (λ (g : 2 * q + m ≤ 2 * (k * m)). omega (arith, mul-le-mul-right m h, mul-le-mul-right d g)) in
+      omega arith
+  crossed (suc (suc e)) k E h = absurd (omega arith)
 
--- the digits of the size that are rounded
-abbrev pub kept : Bool → ℕ → ℕ
-kept false q = q
-kept true q = q - 1
+  rounded-le : (e : ℕ) → e ≤ 1 → (n + (d - e) / 2) / d ≤ (q + (m - e) / 2) / m
+  rounded-le e E =
+      let k = (n + (d - e) / 2) / d in
+      let a = div-mul-le-self (n + (d - e) / 2) d in
+      let b = crossed e k E (omega arith) in
+      le-div-iff-mul-le M .1 (omega arith)
 
--- the whole number nearest ± q / 2^(h + 1)
-unfoldable pub rounded : Bool → ℕ → ℕ → ℤ
-unfolding signed
-rounded s q h = signed s (half-of (kept s q / 2 ^ h))
+module _ (n d q m : ℕ) (D : 0 < d) (M : 0 < m) (same : n * m ≡ q * d) where
+  rounded-same : (e : ℕ) → e ≤ 1 → (n + (d - e) / 2) / d ≡ (q + (m - e) / 2) / m
+  rounded-same e E = le-antisymm (rounded-le n d q m D M same e E) (rounded-le q m n d M D (sym same) e E)
 
--- ---- n / d
-over-two : (x d : ℕ) → 0 < d → x / (2 * d) ≡ x / d / 2
-over-two x d h = ap (λ (k : ℕ). x / k) (mul-comm 2 d) ∙ sym (div-div-eq-div-mul x d 2)
-
-above : (n d : ℕ) → 0 < d → nearest (pos n) d ≡ pos (half-of ((n + n) / d))
-unfolding nearest
-above n d h = ap pos (over-two (n + n + d) d h ∙ ap (λ (k : ℕ). k / 2) (add-div-right (n + n) h))
-
--- ---- -n / d, for an n above 0: past one half and not
-module _ (n d : ℕ) (N : 0 < n) (D : 0 < d) where
-  past : d < n + n → negsuc ((n + n - suc d) / (2 * d)) ≡ negℤ (pos (half-of ((n + n - 1) / d)))
-  past h =
-      let x = n + n - suc d in
-      let whole : n + n - 1 ≡ x + d = omega arith in
-      let q : half-of ((n + n - 1) / d) ≡ suc (x / (2 * d)) =
-      ap (λ (k : ℕ). half-of (k / d)) whole ∙ ap half-of (add-div-right x D) ∙ two-more (x / d) ∙ ap suc (sym (over-two x d D)) in
-      ap negℤ (ap pos (sym q))
-    where
-      two-more : (t : ℕ) → half-of (t + 1) ≡ suc (t / 2)
-      two-more t = omega arith
-
-  short : n + n ≤ d → pos ((d - (n + n)) / (2 * d)) ≡ negℤ (pos (half-of ((n + n - 1) / d)))
-  short h =
-      let a : (d - (n + n)) / (2 * d) ≡ 0 = div-eq-of-lt (omega arith) in
-      let b : (n + n - 1) / d ≡ 0 = div-eq-of-lt (omega arith) in
-      ap pos a ∙ ap (λ (k : ℕ). negℤ (pos (half-of k))) (sym b)
-
-floor-by : (t : Bool) (a b e : ℕ) (w : ℤ) → (T t → negsuc (a / e) ≡ w) → (T (not t) → pos (b / e) ≡ w) → shrZ (cond t (negsuc a) (pos b)) e ≡ w
-floor-by true a b e w f g = f tt
-floor-by false a b e w f g = g tt
-
-below : (n d : ℕ) → 0 < n → 0 < d → nearest (negℤ (pos n)) d ≡ negℤ (pos (half-of ((n + n - 1) / d)))
-unfolding nearest
-below zero d N D = absurd (lt-irrefl 0 N)
-below (suc n) d N D =
-    let t : suc n + suc n ≡ suc (suc (n + n)) = omega arith in
-    subst (λ (k : ℕ). shrZ (subℕ d k) (2 * d) ≡ negℤ (pos (half-of ((suc n + suc n - 1) / d)))) t
-    (floor-by (ltb d (suc n + suc n)) (suc n + suc n - suc d) (d - (suc n + suc n)) (2 * d) (negℤ (pos (half-of ((suc n + suc n - 1) / d))))
-    (λ l. past (suc n) d N D (ltb→lt d (suc n + suc n) l))
-    (λ l. short (suc n) d N D (nltb→le d (suc n + suc n) l)))
-
--- ---- equal fractions x / y and z / w, their numerators one less, have one quotient
-le-of-below : (a b : ℕ) → ((k : ℕ) → b < k → a < k) → a ≤ b
-le-of-below a b h = le-of-suc-le-suc (h (suc b) (omega arith))
-
-cut-le : (x y z w : ℕ) → 0 < x → 0 < z → 0 < y → 0 < w → x * w ≡ z * y → (x - 1) / y ≤ (z - 1) / w
-cut-le x y z w X Z Y W e = le-of-below ((x - 1) / y) ((z - 1) / w) (λ k l.
-    let a : z - 1 < k * w = div-lt-iff-lt-mul W .0 l in
-    let a' : z ≤ k * w = omega arith in
-    let b : z * y ≤ k * w * y = mul-le-mul-right y a' in
-    let c : x * w ≤ k * y * w = le-trans (le-of-eq e) (le-trans b (le-of-eq (mul-right-comm k w y))) in
-    let f : x ≤ k * y = le-of-mul-le-mul-right c W in
-    let g : x - 1 < k * y = omega arith in
-    div-lt-iff-lt-mul Y .1 g)
-
-cut-same : (x y z w : ℕ) → 0 < x → 0 < z → 0 < y → 0 < w → x * w ≡ z * y → (x - 1) / y ≡ (z - 1) / w
-cut-same x y z w X Z Y W e = le-antisymm (cut-le x y z w X Z Y W e) (cut-le z w x y Z X W Y (sym e))
-
--- ---- n / d is q / 2^(h + 1)
-module _ (n d q h : ℕ) (D : 0 < d) (Q : 0 < q) (same : (n + n) * 2 ^ h ≡ q * d) where
-  some : 0 < n + n
-  some = elim (eq-zero-or-pos (n + n)) [
-    | inl z ↦ absurd (none z)
-    | inr p ↦ p
-  ]
-    where
-      none : n + n ≡ 0 → ⊥
-      none z =
-          let e : 0 * 2 ^ h ≡ q * d = subst (λ (k : ℕ). k * 2 ^ h ≡ q * d) z same in
-          let p : 0 * d < q * d = mul-lt-mul-of-pos-right Q D in
-          omega arith
-
-  pub nearest-is : (s : Bool) → nearest (signed s n) d ≡ rounded s q h
-  unfolding rounded signed
-  nearest-is false = above n d D ∙ ap (λ (k : ℕ). pos (half-of k)) (div-same (n + n) d q (2 ^ h) D (pow-pos h) same)
-  nearest-is true = below n d (omega (arith, some)) D ∙ ap (λ (k : ℕ). negℤ (pos (half-of k))) (cut-same (n + n) d q (2 ^ h) some Q D (pow-pos h) same)
+  pub nearest-same : (s : Bool) → nearest (signed s n) d ≡ nearest (signed s q) m
+  unfolding signed
+  nearest-same false = nearest-above n d D ∙ ap pos (simp unary-clauses at (rounded-same 0 (omega arith))) ∙ sym (nearest-above q m M)
+  nearest-same true = nearest-below n d D ∙ ap (λ (k : ℕ). negℤ (pos k)) (rounded-same 1 (omega arith)) ∙ sym (nearest-below q m M)
 
 -- ---- n / d is below one half
 pub nearest-none : (n d : ℕ) → 0 < d → n + n < d → (s : Bool) → nearest (signed s n) d ≡ pos 0
 unfolding signed
-nearest-none n d D h false = above n d D ∙ ap (λ (k : ℕ). pos (half-of k)) (div-eq-of-lt h)
-nearest-none n d D h true = elim (eq-zero-or-pos n) [
-  | inl z ↦ ap (λ (k : ℕ). nearest (negℤ (pos k)) d) z ∙ above 0 d D ∙ ap (λ (k : ℕ). pos (half-of k)) (div-eq-of-lt D)
-  | inr p ↦ below n d p D ∙ ap (λ (k : ℕ). negℤ (pos (half-of k))) (div-eq-of-lt (less n d h))
-]
-  where
-    less : (x y : ℕ) → x + x < y → x + x - 1 < y
-    less x y h = omega arith
+nearest-none n d D h false =
+    let l : n + d / 2 < d = omega arith in
+    nearest-above n d D ∙ ap pos (div-eq-of-lt l)
+nearest-none n d D h true =
+    let l : n + (d - 1) / 2 < d = omega arith in
+    nearest-below n d D ∙ ap (λ (k : ℕ). negℤ (pos k)) (div-eq-of-lt l)
+
+-- ---- q / 2^(h + 1)
+-- the digits that are shifted: below zero a half goes down in size, so a unit of the last digit goes first
+abbrev pub kept : Bool → ℕ → ℕ
+kept false q = q
+kept true q = q - 1
+
+unfoldable pub rounded : Bool → ℕ → ℕ → ℤ
+unfolding signed
+rounded s q h = signed s ((kept s q / 2 ^ h + 1) / 2)
+
+module _ (q h : ℕ) (Q : 0 < q) where
+  abbrev p : ℕ
+  p = 2 ^ h
+
+  shifted : (x : ℕ) → (x + p) / (p * 2) ≡ (x / p + 1) / 2
+  shifted x = sym (div-div-eq-div-mul (x + p) p 2) ∙ ap (λ (k : ℕ). k / 2) (add-div-right x (pow-pos h))
+
+  pub nearest-is : (s : Bool) → nearest (signed s q) (2 ^ (h + 1)) ≡ rounded s q h
+  unfolding rounded signed
+  nearest-is s = rw (pow-add 2 h 1) (go s)
+    where
+      go : (s : Bool) → nearest (signed s q) (p * 2) ≡ signed s ((kept s q / p + 1) / 2)
+      go false =
+          let half : p * 2 / 2 ≡ p = omega arith in
+          nearest-above q (p * 2) (omega (arith, pow-pos h)) ∙ ap pos (ap (λ (k : ℕ). (q + k) / (p * 2)) half ∙ shifted q)
+      go true =
+          let half : q + (p * 2 - 1) / 2 ≡ q - 1 + p = omega (arith, pow-pos h) in
+          nearest-below q (p * 2) (omega (arith, pow-pos h)) ∙ ap (λ (k : ℕ). negℤ (pos k)) (ap (λ (k : ℕ). k / (p * 2)) half ∙ shifted (q - 1))
+
+-- of 53 digits nothing is left after 63 places
+pub rounded-none : (s : Bool) (q : ℕ) → q < 2 ^ 53 → rounded s q 63 ≡ pos 0
+unfolding rounded signed
+rounded-none false q h = let z : q / 2 ^ 63 ≡ 0 = omega arith in rw z
+rounded-none true q h = let z : (q - 1) / 2 ^ 63 ≡ 0 = omega arith in rw z

@@ -1,52 +1,46 @@
 // The count of a float: the whole number nearest its exact value, from its bits.
 ghost use mathlib.Core.Path.{_≡_};
-ghost use Prim.Native.Nat.{_+_, _/_, _%_, _^_, _≤_, _<_};
+ghost use Prim.Native.Nat.{_+_, _-_, _/_, _%_, _^_, _≤_, _<_};
 ghost use lib.IntN.{pos, natAbs};
 ghost use lib.Dec.{T};
 ghost use lib.Ieee.{binary64, ofBits};
-ghost use Rattle.count.specs.Count.{count, countable};
+ghost use Rattle.limits.specs.Limits.{isCountable};
+ghost use Rattle.count.specs.Count.{count};
 
 const SIGN: u64 = 9223372036854775808;
 
 const LEAD: u64 = 4503599627370496;
 
-// q / 2^(h + 1), halves up.
-fn halved(q: u64, h: u64) -> i64
-    requires { ⌜ q < 2 ^ 53 ⌝ ∗ ⌜ h < 64 ⌝ }
-    ensures { λ r. ⌜ (r ≡ pos ((q / 2 ^ h + 1) / 2)) × (natAbs r ≤ 2 ^ 52) ⌝ }
+// The size of ± q / 2^(h + 1), rounded; the sign is 1 below zero. There halves up are halves down in size, so a unit of the last digit goes first.
+fn halved(q: u64, sign: u64, h: u64) -> i64
+    requires { ⌜ 0 < q ⌝ ∗ ⌜ q < 2 ^ 53 ⌝ ∗ ⌜ sign ≤ 1 ⌝ ∗ ⌜ h < 64 ⌝ }
+    ensures { λ r. ⌜ (r ≡ pos (((q - sign) / 2 ^ h + 1) / 2)) × (natAbs r ≤ 2 ^ 52) ⌝ }
 {
-    (((q >> h) + 1) / 2) as i64
+    ((((q - sign) >> h) + 1) / 2) as i64
 }
 
-// The float with the bits b, below 2^52 in size. Below zero halves up are halves down in size, so a unit of the last digit goes first.
+// The places after the point of a float with this exponent, less one; 63 where that is more, which are enough for its 53 digits.
+fn places_of(field: u64) -> u64
+    requires { ⌜ field < 1075 ⌝ }
+    ensures { λ h. ⌜ (h < 64) × (1011 ≤ field → h + field ≡ 1074) × (field < 1011 → h ≡ 63) ⌝ }
+{
+    if field < 1011 { 63 } else { 1074 - field }
+}
+
+// The float with the bits b, below 2^52 in size.
 fn nearest_of_bits(b: u64) -> i64
     requires { ⌜ b % 2 ^ 63 / 2 ^ 52 < 1075 ⌝ }
     ensures { λ r. ⌜ r ≡ count (ofBits binary64 b) ⌝ }
 {
-    let field = b % SIGN / LEAD;
-    // below one half
-    if field < 1021 {
-        return 0;
-    }
-    let h = 1074 - field;
-    let digits = LEAD + b % LEAD;
-    if b < SIGN {
-        halved(digits, h)
-    } else {
-        0 - halved(digits - 1, h)
-    }
+    let sign = b / SIGN;
+    let h = places_of(b % SIGN / LEAD);
+    let size = halved(LEAD + b % LEAD, sign, h);
+    if sign == 0 { size } else { 0 - size }
 }
 
 pub fn nearest_count(x: f64) -> i64
-    requires { ⌜ T (countable x) ⌝ }
+    requires { ⌜ T (isCountable x) ⌝ }
     ensures { λ r. ⌜ r ≡ count x ⌝ }
 {
     nearest_of_bits(f64::to_bits(x))
-}
-
-// Whether x is strictly between -2^52 and 2^52, which no NaN is.
-pub fn is_countable(x: f64) -> bool
-    ensures { λ b. ⌜ b ≡ countable x ⌝ }
-{
-    (-4503599627370496.0 < x) & (x < 4503599627370496.0)
 }

@@ -1,25 +1,10 @@
-// The ocean tide of a model sheet (002; document 01, "Model sheet and ocean tide"), added to a field.
-ghost use mathlib.Core.Path.{_≡_};
-ghost use Rattle.refusals.specs.Numbers.{answerNumber};
-ghost use Rattle.refusals.specs.Outcome.{Gives};
+// The ocean tide of a model sheet (002; document 01, "Model sheet and ocean tide"), added to two lists.
 ghost use Rattle.places.specs.Inner.{WithFactors};
-ghost use Rattle.sheet.specs.Read.{Passed};
-ghost use Rattle.ocean.specs.Ocean.{oceanRefusal, oceanTide};
+ghost use Rattle.sheet.specs.Inner.{Passed};
 ghost use Rattle.ocean.specs.Inner.{Wide, PlacesAdded, TideAdded};
 use arguments::Phases;
 use choices::Frame;
-use refusals::Answer;
 use sheet::Layout;
-
-// Refusals 1, 2, 7, 8 and 9.
-fn tested(n: u32, c: &[i64], s: &[i64], sheet: &[u8]) -> Answer
-    ensures { λ r. ⌜ answerNumber r ≡ oceanRefusal n (now (c .entry)) (now (s .entry)) (now (sheet .entry)) ⌝ }
-{
-    match field::tested(n, c, s) {
-        Answer::Accepted => accept::tested(sheet, n),
-        Answer::Refused(why) => Answer::Refused(why),
-    }
-}
 
 // The corrections of all places, from the factors of the sheet's tides, added to both lists.
 fn add_places(
@@ -54,26 +39,4 @@ pub fn add_tide(c: &mut [i64], s: &mut [i64], sheet: &[u8], l: Layout, phases: P
     let mut fsin = [0i64; 32];
     tides::fill_factors(sheet, l, phases, &mut fcos, &mut fsin);
     add_places(c, s, sheet, l, frame, &fcos, &fsin);
-}
-
-// Given: a field's degree and its two lent lists, a model sheet's bytes, six phases, the frame.
-// Done: the corrections of the sheet's places are added; every other entry stays, and with the centre-of-mass frame degree 1 stays too.
-// Refused: 1, the degree or a length; 2, an entry out of range; 7, the sheet's length; 8, a value of it; 9, a place above the degree.
-// Nothing is added then.
-pub fn ocean_tide(
-    n: u32,
-    c: &mut [i64],
-    s: &mut [i64],
-    sheet: &[u8],
-    phases: Phases,
-    frame: Frame,
-) -> Answer
-    ensures { λ r. ⌜ Gives (oceanTide n (now (c .entry)) (now (s .entry)) (now (sheet .entry)) phases frame) (answerNumber r) (now (c .exit)) (now (s .exit)) ⌝ }
-{
-    let answer = tested(n, c, s, sheet);
-    if let Answer::Accepted = answer {
-        let l = sheet::layout_of(sheet);
-        add_tide(c, s, sheet, l, phases, frame);
-    }
-    answer
 }

@@ -1,8 +1,13 @@
 -- The two halves of a body's terms, as two functions work them out: t of each, then P and Q.
+use mathlib.Core.List.{List}
+use Prim.Native.Nat.{ℕ}
 use lib.Ieee.{Float}
-use Rattle.powers.specs.declared.Powers.{Powers}
+use lib.ListN.{getD}
+use Rattle.powers.specs.declared.Power.{Power}
+use Rattle.powers.specs.Powers.{none}
 use Rattle.constants.specs.declared.Norms.{Norms}
 use Rattle.bodies.specs.declared.Direction.{Direction}
+use Rattle.potential.specs.declared.Pair.{Pair}
 use Rattle.potential.specs.declared.Potential.{Potential}
 use Rattle.potential.specs.declared.Strengths.{Strengths}
 use Rattle.potential.specs.Potential.{t20, t21, t22, t30, t31, t32, t33, strength, times}
@@ -19,14 +24,17 @@ strengths ratio d n =
       t33 = strength (n .n33) ratio d t33;
     }
 
-unfoldable pub paired : Strengths → Powers → Potential
-paired t e =
+abbrev pub raised : Float → List Power → ℕ → Pair
+raised t power m = times t (getD power m none .e) (getD power m none .f)
+
+unfoldable pub paired : Strengths → List Power → Potential
+paired t power =
     record {
-      nm20 = times (t .t20) (e .e0) (e .f0);
-      nm21 = times (t .t21) (e .e1) (e .f1);
-      nm22 = times (t .t22) (e .e2) (e .f2);
-      nm30 = times (t .t30) (e .e0) (e .f0);
-      nm31 = times (t .t31) (e .e1) (e .f1);
-      nm32 = times (t .t32) (e .e2) (e .f2);
-      nm33 = times (t .t33) (e .e3) (e .f3);
+      nm20 = raised (t .t20) power 0;
+      nm21 = raised (t .t21) power 1;
+      nm22 = raised (t .t22) power 2;
+      nm30 = raised (t .t30) power 0;
+      nm31 = raised (t .t31) power 1;
+      nm32 = raised (t .t32) power 2;
+      nm33 = raised (t .t33) power 3;
     }

@@ -5,7 +5,7 @@ ghost use Rattle.potential.specs.Halves.{strengths, paired};
 use bodies::Direction;
 use constants::Norms;
 use constants::norms_of;
-use powers::Powers;
+use powers::Power;
 use powers::powers_of;
 
 // P and Q: the real and the imaginary part.
@@ -63,37 +63,41 @@ fn strengths_of(ratio: f64, d: Direction, n: Norms) -> Strengths
     }
 }
 
-fn paired_of(t: Strengths, e: Powers) -> Potential
-    ensures { λ x. ⌜ x ≡ paired t e ⌝ }
+fn paired_of(t: Strengths, power: [Power; 4]) -> Potential
+    ensures { λ x. ⌜ x ≡ paired t power ⌝ }
 {
+    let p0 = power[0];
+    let p1 = power[1];
+    let p2 = power[2];
+    let p3 = power[3];
     Potential {
         nm20: Pair {
-            p: t.t20 * e.e0,
-            q: t.t20 * e.f0,
+            p: t.t20 * p0.e,
+            q: t.t20 * p0.f,
         },
         nm21: Pair {
-            p: t.t21 * e.e1,
-            q: t.t21 * e.f1,
+            p: t.t21 * p1.e,
+            q: t.t21 * p1.f,
         },
         nm22: Pair {
-            p: t.t22 * e.e2,
-            q: t.t22 * e.f2,
+            p: t.t22 * p2.e,
+            q: t.t22 * p2.f,
         },
         nm30: Pair {
-            p: t.t30 * e.e0,
-            q: t.t30 * e.f0,
+            p: t.t30 * p0.e,
+            q: t.t30 * p0.f,
         },
         nm31: Pair {
-            p: t.t31 * e.e1,
-            q: t.t31 * e.f1,
+            p: t.t31 * p1.e,
+            q: t.t31 * p1.f,
         },
         nm32: Pair {
-            p: t.t32 * e.e2,
-            q: t.t32 * e.f2,
+            p: t.t32 * p2.e,
+            q: t.t32 * p2.f,
         },
         nm33: Pair {
-            p: t.t33 * e.e3,
-            q: t.t33 * e.f3,
+            p: t.t33 * p3.e,
+            q: t.t33 * p3.f,
         },
     }
 }

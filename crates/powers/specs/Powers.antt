@@ -1,8 +1,11 @@
 -- Document 01, "Step one": E and F.
-use Prim.Native.Nat.{ℕ, zero, suc}
-use lib.Ieee.{Float}
+use mathlib.Core.List.{List, [], _∷_}
+use mathlib.Core.Path.{_≡_}
+use Prim.Native.Nat.{ℕ, zero, suc, _-_, _≤_, _<_}
+use lib.Ieee.{Float, nan}
+use lib.ListN.{getD}
 use Rattle.doubles.specs.Doubles.{_*·_, _+·_, _-·_, number}
-use Rattle.powers.specs.declared.Powers.{Powers}
+use Rattle.powers.specs.declared.Power.{Power}
 
 -- "E0 = 1, F0 = 0; E(m) = u*E(m-1) - v*F(m-1); F(m) = u*F(m-1) + v*E(m-1). Each falls back on both of order m-1."
 unfoldable mutual
@@ -14,16 +17,24 @@ unfoldable mutual
   F zero u v = number 0
   F (suc m) u v = u *· F m u v +· v *· E m u v
 
+-- both of order m
+abbrev pub power : ℕ → Float → Float → Power
+power m u v = record { e = E m u v; f = F m u v }
+
 -- the orders 0 to 3
-unfoldable pub powers : Float → Float → Powers
-powers u v =
-    record {
-      e0 = E 0 u v;
-      f0 = F 0 u v;
-      e1 = E 1 u v;
-      f1 = F 1 u v;
-      e2 = E 2 u v;
-      f2 = F 2 u v;
-      e3 = E 3 u v;
-      f3 = F 3 u v;
-    }
+unfoldable pub powers : Float → Float → List Power
+powers u v = power 0 u v ∷ power 1 u v ∷ power 2 u v ∷ power 3 u v ∷ []
+
+-- what stands past a list's end
+abbrev pub none : Power
+none = record { e = nan; f = nan }
+
+-- a list has the orders 0 to m
+pub record UpTo (m : ℕ) (u v : Float) (l : List Power) : Type 0 where
+  pub at : (j : ℕ) → j ≤ m → getD l j none ≡ power j u v
+
+-- a list that order m is to be put into
+pub record Raises (m : ℕ) (u v : Float) (l : List Power) : Type 0 where
+  pub some : 0 < m
+  pub most : m < 4
+  pub before : UpTo (m - 1) u v l

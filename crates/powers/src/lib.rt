@@ -1,50 +1,51 @@
 // E(m) and F(m), the real and the imaginary part of (u + iv)^m: two functions that call each other with the order falling.
 ghost use mathlib.Core.Path.{_≡_};
-ghost use Rattle.powers.specs.Powers.{E, F, powers};
+ghost use Prim.Native.Nat.{_%_, _<_};
+ghost use Rattle.powers.specs.Powers.{powers, UpTo, Raises};
+
+// E and F of one order.
+pub struct Power {
+    pub e: f64,
+    pub f: f64,
+}
+
+// E and F of the orders 0 to m, from those of 0 to m - 1.
+fn raised(p: [Power; 4], m: usize, u: f64, v: f64) -> [Power; 4]
+    requires { ⌜ Raises m u v p ⌝ }
+    ensures { λ r. ⌜ UpTo m u v r ⌝ }
+{
+    let mut out = p;
+    let both = out[m - 1];
+    out[m] = Power {
+        e: u * both.e - v * both.f,
+        f: u * both.f + v * both.e,
+    };
+    out
+}
+
+// E and F of the orders 0 to m, for an even m.
+fn even_orders(m: usize, u: f64, v: f64) -> [Power; 4]
+    requires { ⌜ m < 4 ⌝ ∗ ⌜ m % 2 ≡ 0 ⌝ }
+    ensures { λ r. ⌜ UpTo m u v r ⌝ }
+{
+    if m == 0 {
+        [Power { e: 1.0, f: 0.0 }; 4]
+    } else {
+        raised(odd_orders(m - 1, u, v), m, u, v)
+    }
+}
+
+// The same for an odd m.
+fn odd_orders(m: usize, u: f64, v: f64) -> [Power; 4]
+    requires { ⌜ m < 4 ⌝ ∗ ⌜ m % 2 ≡ 1 ⌝ }
+    ensures { λ r. ⌜ UpTo m u v r ⌝ }
+{
+    raised(even_orders(m - 1, u, v), m, u, v)
+}
 
 // E and F of the orders 0 to 3.
-pub struct Powers {
-    pub e0: f64,
-    pub f0: f64,
-    pub e1: f64,
-    pub f1: f64,
-    pub e2: f64,
-    pub f2: f64,
-    pub e3: f64,
-    pub f3: f64,
-}
-
-fn real_part(m: u8, u: f64, v: f64) -> f64
-    ensures { λ r. ⌜ r ≡ E m u v ⌝ }
-{
-    if m == 0 {
-        1.0
-    } else {
-        u * real_part(m - 1, u, v) - v * imaginary_part(m - 1, u, v)
-    }
-}
-
-fn imaginary_part(m: u8, u: f64, v: f64) -> f64
-    ensures { λ r. ⌜ r ≡ F m u v ⌝ }
-{
-    if m == 0 {
-        0.0
-    } else {
-        u * imaginary_part(m - 1, u, v) + v * real_part(m - 1, u, v)
-    }
-}
-
-pub fn powers_of(u: f64, v: f64) -> Powers
+pub fn powers_of(u: f64, v: f64) -> [Power; 4]
     ensures { λ r. ⌜ r ≡ powers u v ⌝ }
 {
-    Powers {
-        e0: real_part(0, u, v),
-        f0: imaginary_part(0, u, v),
-        e1: real_part(1, u, v),
-        f1: imaginary_part(1, u, v),
-        e2: real_part(2, u, v),
-        f2: imaginary_part(2, u, v),
-        e3: real_part(3, u, v),
-        f3: imaginary_part(3, u, v),
-    }
+    odd_orders(3, u, v)
 }

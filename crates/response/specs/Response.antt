@@ -1,11 +1,8 @@
--- Document 01, "Step one": dC and dS, in counts.
-use mathlib.Core.Bool.{Bool, true, _&&_}
-use mathlib.Core.List.{List, [], _∷_, map}
+-- Document 01, "Step one": dC and dS times 10^15.
+use mathlib.Core.List.{[], _∷_}
 use Prim.Native.Nat.{_^_}
-use lib.IntN.{ℤ}
 use lib.Ieee.{Float}
 use Rattle.doubles.specs.Doubles.{_*·_, _+·_, _-·_, number}
-use Rattle.count.specs.Count.{count, countable}
 use Rattle.constants.specs.declared.Love.{Love}
 use Rattle.constants.specs.declared.Loves.{Loves}
 use Rattle.constants.specs.declared.Loves3.{Loves3}
@@ -48,12 +45,3 @@ changes k k3 x =
           ∷ unused ∷ dS (k3 .k31) (x .nm31) ∷ dS (k3 .k32) (x .nm32) ∷ dS (k3 .k33) (x .nm33)
           ∷ unused ∷ dS4 (k .plus1) (x .nm21) ∷ dS4 (k .plus2) (x .nm22) ∷ [];
     }
-
--- each strictly between -2^52 and 2^52
-unfoldable pub allCountable : List Float → Bool
-allCountable [] = true
-allCountable (x ∷ xs) = countable x && allCountable xs
-
--- "nearest count of the float's exact value"
-unfoldable pub counts : List Float → List ℤ
-counts xs = map count xs

@@ -1,7 +1,6 @@
-// The Earth's response to the potential (001, eqs. 1 and 4; document 01, "Step one"): corrections of degree 2, 3 and 4, in counts.
+// The Earth's response to the potential (001, eqs. 1 and 4; document 01, "Step one"): dC and dS of degree 2, 3 and 4.
 ghost use mathlib.Core.Path.{_≡_};
-ghost use lib.Dec.{T};
-ghost use Rattle.response.specs.Response.{changes, allCountable, counts};
+ghost use Rattle.response.specs.Response.{changes};
 use constants::Loves;
 use constants::Loves3;
 use potential::Potential;
@@ -43,30 +42,4 @@ pub fn changes_of(k: Loves, k3: Loves3, x: Potential) -> Changes
         k.plus2 * x.nm22.q * COUNTS,
     ];
     Changes { c, s }
-}
-
-pub fn are_countable(xs: [f64; 10]) -> bool
-    ensures { λ b. ⌜ b ≡ allCountable xs ⌝ }
-{
-    let mut k = 0usize;
-    while k < 10 {
-        if !count::is_countable(xs[k]) {
-            return false;
-        }
-        k += 1;
-    }
-    true
-}
-
-pub fn counts_of(xs: [f64; 10]) -> [i64; 10]
-    requires { ⌜ T (allCountable xs) ⌝ }
-    ensures { λ r. ⌜ r ≡ counts xs ⌝ }
-{
-    let mut out = [0i64; 10];
-    let mut k = 0usize;
-    while k < 10 {
-        out[k] = count::nearest_count(xs[k]);
-        k += 1;
-    }
-    out
 }

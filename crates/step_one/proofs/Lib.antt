@@ -1,4 +1,7 @@
-pub mod Run
-pub mod Outcomes
-pub mod Entries
-pub mod Example
+pub mod Each
+pub mod Permanent
+pub mod Places
+pub mod Order
+pub mod Counted
+pub mod Table
+pub mod Worked

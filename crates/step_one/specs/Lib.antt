@@ -1,2 +1,2 @@
 pub mod StepOne
-pub mod Ready
+pub mod Inner

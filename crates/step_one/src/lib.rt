@@ -1,69 +1,140 @@
-// Solid tide, step one (001, eqs. 1 to 7; document 01, "Step one"): the Moon's and the Sun's corrections, added to a field.
+// Solid tide, step one (001, eqs. 1 to 7; document 01, "Step one"): what the Moon and the Sun add to a field.
 ghost use mathlib.Core.Path.{_≡_};
-ghost use Rattle.refusals.specs.Numbers.{answerNumber};
-ghost use Rattle.refusals.specs.Outcome.{Gives};
-ghost use Rattle.step_one.specs.StepOne.{withoutPermanent, correctedRun, stepOne};
-ghost use Rattle.step_one.specs.Ready.{Small, Ready};
+ghost use lib.Dec.{T};
+ghost use Rattle.refusals.specs.Numbers.{refusalNumber};
+ghost use Rattle.refusals.specs.Told.Told.{refused};
+ghost use Rattle.step_one.specs.StepOne.{floats, allCountable, countsC, countsS, withoutPermanent, measured, corrections, tells};
+ghost use Rattle.step_one.specs.Inner.{Small};
 use bodies::Body;
+use bodies::Direction;
+use bodies::Sight;
+use bodies::see;
 use choices::LoveModel;
-use corrections::corrections_of;
-use field::correct;
-use field::tested;
+use constants::loves_3;
+use constants::loves_of;
+use count::nearest_count;
+use limits::is_countable;
 use permanent::permanent_part;
+use potential::shared_of;
+use potential::terms_of;
 use refusals::Answer;
+use refusals::Refusal;
+use response::Changes;
+use response::changes_of;
 
-// The place of C20; the others that step one corrects follow it.
-const FIRST: usize = 3;
+// The counts to add to C and S at 20, 21, 22, 30, 31, 32, 33, 40, 41, 42; none where refused.
+pub struct Corrections {
+    pub answer: Answer,
+    pub c: [i64; 10],
+    pub s: [i64; 10],
+}
 
+fn refuse(r: Refusal) -> Corrections
+    ensures { λ x. ⌜ tells x ≡ refused (refusalNumber r) ⌝ }
+{
+    Corrections {
+        answer: Answer::Refused(r),
+        c: [0; 10],
+        s: [0; 10],
+    }
+}
+
+fn are_countable(xs: [f64; 10]) -> bool
+    ensures { λ b. ⌜ b ≡ allCountable xs ⌝ }
+{
+    let mut k = 0usize;
+    while k < 10 {
+        if !is_countable(xs[k]) {
+            return false;
+        }
+        k += 1;
+    }
+    true
+}
+
+fn counts_c(xs: [f64; 10]) -> [i64; 10]
+    requires { ⌜ T (allCountable xs) ⌝ }
+    ensures { λ r. ⌜ r ≡ countsC xs ⌝ }
+{
+    let mut out = [0i64; 10];
+    let mut k = 0usize;
+    while k < 10 {
+        out[k] = nearest_count(xs[k]);
+        k += 1;
+    }
+    out
+}
+
+// At order 0 only C is used.
+fn counts_s(xs: [f64; 10]) -> [i64; 10]
+    requires { ⌜ T (allCountable xs) ⌝ }
+    ensures { λ r. ⌜ r ≡ countsS xs ⌝ }
+{
+    [
+        0,
+        nearest_count(xs[1]),
+        nearest_count(xs[2]),
+        0,
+        nearest_count(xs[4]),
+        nearest_count(xs[5]),
+        nearest_count(xs[6]),
+        0,
+        nearest_count(xs[8]),
+        nearest_count(xs[9]),
+    ]
+}
+
+// The counts of C with the permanent part taken off C20.
 fn without_permanent(by: [i64; 10], love: LoveModel) -> [i64; 10]
     requires { ⌜ Small 52 by ⌝ }
-    ensures { λ r. ⌜ (r ≡ withoutPermanent love by) × Small 53 r ⌝ }
+    ensures { λ r. ⌜ r ≡ withoutPermanent love by ⌝ }
 {
     let mut out = by;
     out[0] = out[0] - permanent_part(love);
     out
 }
 
-// Corrects the ten places in turn.
-fn correct_run(list: &mut [i64], by: [i64; 10])
-    requires { ⌜ Ready (now list) by ⌝ }
-    ensures { λ _. ⌜ now (list .exit) ≡ correctedRun (now (list .entry)) by 10 ⌝ }
+// Refusal 6, or the counts.
+fn measure(f: Changes, love: LoveModel) -> Corrections
+    ensures { λ r. ⌜ tells r ≡ measured f love ⌝ }
 {
-    let mut k = 0usize;
-    while k < 10 {
-        correct(list, FIRST + k, by[k]);
-        k += 1;
+    let c = f.c;
+    let s = f.s;
+    if !(are_countable(c) & are_countable(s)) {
+        return refuse(Refusal::StepOneRange);
+    }
+    let in_c = without_permanent(counts_c(c), love);
+    let in_s = counts_s(s);
+    Corrections {
+        answer: Answer::Accepted,
+        c: in_c,
+        s: in_s,
     }
 }
 
-// Given: a field of degree n in two lent lists, the Moon, the Sun, the Love model.
-// Done: the corrections of degree 2, 3 and 4 are added, the permanent part of C20 left out.
-// Refused, every entry then as it was: 1, 2, the Moon's 3, 4, 5, the Sun's 3, 4, 5, 6.
-pub fn step_one(
-    n: u32,
-    c: &mut [i64],
-    s: &mut [i64],
-    moon: Body,
-    sun: Body,
-    love: LoveModel,
-) -> Answer
-    ensures { λ r. ⌜ Gives (stepOne n (now (c .entry)) (now (s .entry)) moon sun love) (answerNumber r) (now (c .exit)) (now (s .exit)) ⌝ }
+// The Moon at m and the Sun at s.
+fn floats_of(moon: Body, m: Direction, sun: Body, s: Direction, love: LoveModel) -> Changes
+    ensures { λ f. ⌜ f ≡ floats moon m sun s love ⌝ }
 {
-    let shape = tested(n, c, s);
-    match shape {
-        Answer::Refused(r) => Answer::Refused(r),
-        Answer::Accepted => {
-            let x = corrections_of(moon, sun, love);
-            let answer = x.answer;
-            match answer {
-                Answer::Refused(r) => Answer::Refused(r),
-                Answer::Accepted => {
-                    let in_c = x.c;
-                    let in_s = x.s;
-                    correct_run(c, without_permanent(in_c, love));
-                    correct_run(s, in_s);
-                    Answer::Accepted
-                }
+    let x = shared_of(terms_of(moon.ratio, m), terms_of(sun.ratio, s));
+    let k = loves_of(love);
+    let k3 = loves_3();
+    changes_of(k, k3, x)
+}
+
+// Given: the Moon, the Sun, the Love model. Answered: the counts to add, the permanent part taken off C20.
+// Refused: the Moon's 3, 4, 5, then the Sun's, then 6.
+pub fn corrections_of(moon: Body, sun: Body, love: LoveModel) -> Corrections
+    ensures { λ r. ⌜ tells r ≡ corrections moon sun love ⌝ }
+{
+    let moon_seen = see(moon);
+    match moon_seen {
+        Sight::Refused(r) => refuse(r),
+        Sight::At(m) => {
+            let sun_seen = see(sun);
+            match sun_seen {
+                Sight::Refused(r) => refuse(r),
+                Sight::At(s) => measure(floats_of(moon, m, sun, s, love), love),
             }
         }
     }

@@ -1,14 +1,9 @@
--- What the inner functions ask of their callers and answer: the five sums, entries in range, and corrections that no such entry overflows with.
-use mathlib.Core.Bool.{true}
-use mathlib.Core.List.{List}
-use mathlib.Core.Path.{_≡_}
-use Prim.Native.Nat.{ℕ, _^_, _≤_, _<_}
+-- What the inner functions ask of their callers and answer: the five sums, and corrections that no entry in range overflows with.
+use Prim.Native.Nat.{ℕ, _^_, _≤_}
 use lib.IntN.{ℤ, natAbs}
-use lib.ListN.{length}
 use Rattle.bands.specs.declared.Line.{Line}
 use Rattle.bands.specs.declared.Sums.{Sums}
 use Rattle.bands.specs.Bands.{C20, C21, S21, C22, S22}
-use Rattle.field.specs.Field.{everyInRange}
 use Rattle.whole.specs.Nearest.{nearest}
 use Rattle.step_two.specs.declared.Corrections.{Corrections}
 use Rattle.step_two.specs.StepTwo.{sumOf}
@@ -37,10 +32,6 @@ roundedOf sums = record {
   c22 = nearest (sums .c22) (2 ^ 30);
   s22 = nearest (sums .s22) (2 ^ 30);
 }
-
-pub record Room (l : List ℤ) : Type 0 where
-  pub long : 5 < length l
-  pub range : everyInRange l ≡ true
 
 pub record Small (d : Corrections) : Type 0 where
   pub c20 : natAbs (d .c20) ≤ 2 ^ 60

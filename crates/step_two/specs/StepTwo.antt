@@ -1,15 +1,11 @@
 -- Document 01, "Step two (001, Tables 6.2)".
-use mathlib.Core.List.{List}
 use Prim.Native.Nat.{ℕ, _^_}
 use lib.IntN.{ℤ}
 use Rattle.arguments.specs.declared.Phases.{Phases}
 use Rattle.bands.specs.declared.Line.{Line}
 use Rattle.bands.specs.Bands.{Coefficient, C20, C21, S21, C22, S22, term}
 use Rattle.choices.specs.declared.LoveModel.{LoveModel}
-use Rattle.field.specs.Field.{place, fieldRefusal}
-use Rattle.field.specs.Added.{corrected}
 use Rattle.lines.specs.Lines.{linePhase, printedLine}
-use Rattle.refusals.specs.Outcome.{unlessRefused, Outcome}
 use Rattle.wave.specs.Wave.{sin, cos}
 use Rattle.whole.specs.Nearest.{nearest}
 use Rattle.whole.specs.Sum.{sumTo}
@@ -41,15 +37,3 @@ corrections phases love = record {
   c22 = correction phases love C22;
   s22 = correction phases love S22;
 }
-
--- the corrections of degree two added to a list each, all other entries, and S(n,0), equal to before
-unfoldable pub addedC : List ℤ → Corrections → List ℤ
-addedC c d = corrected (corrected (corrected c (place 2 0) (d .c20)) (place 2 1) (d .c21)) (place 2 2) (d .c22)
-
-unfoldable pub addedS : List ℤ → Corrections → List ℤ
-addedS s d = corrected (corrected s (place 2 1) (d .s21)) (place 2 2) (d .s22)
-
--- the call over a field: refusals 1, then 2, and none else
-unfoldable pub stepTwo : ℕ → List ℤ → List ℤ → Phases → LoveModel → Outcome
-stepTwo n c s phases love =
-    unlessRefused (fieldRefusal n c s) c s (addedC c (corrections phases love)) (addedS s (corrections phases love))

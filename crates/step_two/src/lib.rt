@@ -2,14 +2,11 @@
 ghost use mathlib.Core.Path.{_≡_};
 ghost use Rattle.hour.specs.Inner.{kept};
 ghost use Rattle.lines.specs.Lines.{printedLine};
-ghost use Rattle.refusals.specs.Numbers.{answerNumber};
-ghost use Rattle.refusals.specs.Outcome.{Gives};
-ghost use Rattle.step_two.specs.StepTwo.{corrections, addedC, addedS, stepTwo};
-ghost use Rattle.step_two.specs.Inner.{sumsOf, roundedOf, Bounded, Room, Small};
+ghost use Rattle.step_two.specs.StepTwo.{corrections};
+ghost use Rattle.step_two.specs.Inner.{sumsOf, roundedOf, Bounded};
 use arguments::Phases;
 use bands::Sums;
 use choices::LoveModel;
-use refusals::Answer;
 
 // The five corrections, in counts.
 pub struct Corrections {
@@ -66,38 +63,4 @@ pub fn corrections_of(phases: Phases, love: LoveModel) -> Corrections
     let mut sines = [0i32; 49];
     hour::fill_waves(phases, love, &mut cosines, &mut sines);
     rounded_of(sums_of(love, &cosines, &sines))
-}
-
-// Adds the corrections of C.
-fn add_c(c: &mut [i64], d: Corrections)
-    requires { ⌜ Room (now c) × Small d ⌝ }
-    ensures { λ _. ⌜ now (c .exit) ≡ addedC (now (c .entry)) d ⌝ }
-{
-    field::correct(c, 3, d.c20);
-    field::correct(c, 4, d.c21);
-    field::correct(c, 5, d.c22);
-}
-
-// Adds the corrections of S.
-fn add_s(s: &mut [i64], d: Corrections)
-    requires { ⌜ Room (now s) × Small d ⌝ }
-    ensures { λ _. ⌜ now (s .exit) ≡ addedS (now (s .entry)) d ⌝ }
-{
-    field::correct(s, 4, d.s21);
-    field::correct(s, 5, d.s22);
-}
-
-// Given: a field's degree and its two lent lists, six phases, the Love model.
-// Done: the corrections of C20, C21, S21, C22 and S22 are added; every other entry stays.
-// Refused: 1, the degree or a length; 2, an entry out of range. Nothing is added then.
-pub fn step_two(n: u32, c: &mut [i64], s: &mut [i64], phases: Phases, love: LoveModel) -> Answer
-    ensures { λ r. ⌜ Gives (stepTwo n (now (c .entry)) (now (s .entry)) phases love) (answerNumber r) (now (c .exit)) (now (s .exit)) ⌝ }
-{
-    let answer = field::tested(n, c, s);
-    if let Answer::Accepted = answer {
-        let d = corrections_of(phases, love);
-        add_c(c, d);
-        add_s(s, d);
-    }
-    answer
 }

@@ -1,3 +1,3 @@
-pub mod OneResult
-pub mod Refusals
+pub mod StepOne
 pub mod StepTwo
+pub mod OceanTide

@@ -3,12 +3,35 @@ use mathlib.Core.List.{List, [], _∷_}
 use Prim.Native.Nat.{ℕ}
 use lib.IntN.{ℤ}
 use Rattle.arguments.specs.declared.Phases.{Phases}
+use Rattle.bodies.specs.declared.Body.{Body}
+use Rattle.choices.specs.declared.Frame.{Frame}
 use Rattle.choices.specs.declared.LoveModel.{LoveModel}
 use Rattle.field.specs.Added.{added, addedAt}
 use Rattle.field.specs.Field.{place, fieldRefusal}
+use Rattle.ocean.specs.Ocean.{dC, dS}
+use Rattle.places.specs.Places.{indexOf}
 use Rattle.refusals.specs.Outcome.{Outcome, firstOf, unlessRefused}
+use Rattle.refusals.specs.Told.{Told, toldNumber}
+use Rattle.refusals.specs.Told.Told.{accepted, refused}
+use Rattle.sheet.specs.Accepted.{sheetRefusal}
+use Rattle.sheet.specs.Sheet.{placeCount}
+use Rattle.step_one.specs.StepOne.{Counts, places, corrections as bodyCorrections}
 use Rattle.step_two.specs.declared.Corrections.{Corrections}
 use Rattle.step_two.specs.StepTwo.{corrections as lineCorrections}
+
+-- ---- step one: refusals 1, 2, then the Moon's 3, 4, 5, the Sun's, and 6
+-- nothing is added where a body or a correction is refused
+abbrev pub countsOf : Told Counts → Counts
+countsOf (accepted counts) = counts
+countsOf (refused number) = record { c = []; s = [] }
+
+unfoldable pub stepOneRefusal : ℕ → List ℤ → List ℤ → Body → Body → LoveModel → ℕ
+stepOneRefusal n c s moon sun love = firstOf (fieldRefusal n c s) (toldNumber (bodyCorrections moon sun love))
+
+unfoldable pub stepOne : ℕ → List ℤ → List ℤ → Body → Body → LoveModel → Outcome
+stepOne n c s moon sun love =
+    let counts = countsOf (bodyCorrections moon sun love) in
+    unlessRefused (stepOneRefusal n c s moon sun love) c s (addedAt places (counts .c) c) (addedAt places (counts .s) s)
 
 -- ---- step two: refusals 1, then 2
 -- C20, C21, C22; S21, S22
@@ -30,3 +53,14 @@ unfoldable pub stepTwo : ℕ → List ℤ → List ℤ → Phases → LoveModel 
 stepTwo n c s phases love =
     let d = lineCorrections phases love in
     unlessRefused (fieldRefusal n c s) c s (addedAt placesC (forC d) c) (addedAt placesS (forS d) s)
+
+-- ---- ocean tide: refusals 1, 2, then the sheet's 7, 8, 9
+unfoldable pub oceanRefusal : ℕ → List ℤ → List ℤ → List ℕ → ℕ
+oceanRefusal n c s sheet = firstOf (fieldRefusal n c s) (sheetRefusal sheet n)
+
+-- "Added to the field": the correction of each of the sheet's places
+unfoldable pub oceanTide : ℕ → List ℤ → List ℤ → List ℕ → Phases → Frame → Outcome
+oceanTide n c s sheet phases frame =
+    unlessRefused (oceanRefusal n c s sheet) c s
+    (added (indexOf sheet) (dC sheet phases frame) (placeCount sheet) c)
+    (added (indexOf sheet) (dS sheet phases frame) (placeCount sheet) s)

@@ -1,15 +1,13 @@
 // Surfgimlet: tide corrections to the coefficients of a gravity field, and the permanent tide of C20. These are all its calls.
 // A field of degree n is two lent lists of counts of 10^-15, C and S, of (n+1)(n+2)/2 entries, place (n,m) at n(n+1)/2+m.
-// A call over a field answers Accepted, or Refused with every entry of both lists as it was.
+// A call over a field tests, works out and adds. It answers Accepted, or Refused with every entry of both lists as it was.
 ghost use mathlib.Core.Path.{_≡_};
-ghost use Rattle.refusals.specs.Numbers.{answerNumber};
 ghost use Rattle.doodson.specs.Doodson.{readDoodson, writeDoodson, tellsRead, tellsWritten};
-ghost use Rattle.refusals.specs.Outcome.{Gives};
 ghost use Rattle.lines.specs.Lines.{findLine, tells as tellsSought};
-ghost use Rattle.ocean.specs.Ocean.{oceanTide};
 ghost use Rattle.permanent.specs.Systems.{movedC20, tells as tellsMoved};
-ghost use Rattle.step_one.specs.StepOne.{stepOne};
-ghost use Rattle.surfgimlet.specs.Calls.{stepTwo};
+ghost use Rattle.refusals.specs.Numbers.{answerNumber};
+ghost use Rattle.refusals.specs.Outcome.{Gives};
+ghost use Rattle.surfgimlet.specs.Calls.{stepOne, stepTwo, oceanTide};
 use arguments::Multipliers;
 use arguments::Phases;
 use bodies::Body;
@@ -41,7 +39,16 @@ pub fn step_one(
 ) -> Answer
     ensures { λ r. ⌜ Gives (stepOne n (now (c .entry)) (now (s .entry)) moon sun love) (answerNumber r) (now (c .exit)) (now (s .exit)) ⌝ }
 {
-    step_one::step_one(n, c, s, moon, sun, love)
+    let d = step_one::corrections_of(moon, sun, love);
+    let told = d.answer;
+    let answer = refusals::first_of(field::tested(n, c, s), told);
+    if let Answer::Accepted = answer {
+        let in_c = d.c;
+        let in_s = d.s;
+        field::add_run(c, PLACE_20, &in_c);
+        field::add_run(s, PLACE_20, &in_s);
+    }
+    answer
 }
 
 // Solid tide, step two (001, Tables 6.2; document 01, "Step two").
@@ -71,12 +78,17 @@ pub fn ocean_tide(
     c: &mut [i64],
     s: &mut [i64],
     sheet: &[u8],
-    b: Phases,
+    phases: Phases,
     frame: Frame,
 ) -> Answer
-    ensures { λ r. ⌜ Gives (oceanTide n (now (c .entry)) (now (s .entry)) (now (sheet .entry)) b frame) (answerNumber r) (now (c .exit)) (now (s .exit)) ⌝ }
+    ensures { λ r. ⌜ Gives (oceanTide n (now (c .entry)) (now (s .entry)) (now (sheet .entry)) phases frame) (answerNumber r) (now (c .exit)) (now (s .exit)) ⌝ }
 {
-    ocean::ocean_tide(n, c, s, sheet, b, frame)
+    let l = sheet::layout_of(sheet);
+    let answer = refusals::first_of(field::tested(n, c, s), accept::tested(sheet, l, n));
+    if let Answer::Accepted = answer {
+        ocean::add_tide(c, s, sheet, l, phases, frame);
+    }
+    answer
 }
 
 // The permanent tide of one C20 (document 01, "Permanent systems").

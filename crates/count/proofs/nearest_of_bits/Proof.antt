@@ -1,68 +1,81 @@
 -- Twice the value is the digits without their last h places; halved and rounded up, by the sign, that is the nearest count.
-use mathlib.Core.Path.{sym, ap, _∙_}
+use mathlib.Core.Path.{_≡_, refl, sym, ap, _∙_}
+use mathlib.Core.Bool.{Bool, true, false}
+use Prim.Native.Nat.{ℕ, _+_, _-_, _/_, _^_, _≤_, _<_}
+use native.Mathlib.Nat.{le-antisymm, le-of-suc-le-suc, div-lt-iff-lt-mul, le-div-iff-mul-le}
 use native.Mathlib.Omega.{arith}
-use lib.IntN.{pos, negℤ, _-ℤ_, +ℤ-idl}
+use lib.Pow.{pow-pos}
+use lib.Dec.{leb}
+use lib.Ieee.{binary64, ofBits}
+use lib.IntN.{ℤ, pos, negℤ, _-ℤ_, +ℤ-idl}
 use mir.Syntax.{w64}
 use mir.Val.{SFits}
 use mir.Facts.{toZ-ofZ}
-use Rattle.whole.proofs.Machine.{back, difference-fits}
-use Rattle.count.specs.Count.{signed}
-use Rattle.count.proofs.Halves.{rounded}
-use Rattle.count.proofs.Fields.{none-is, above-is, below-is}
 use borrow.Author.Needs.{needs}
+use borrow.Author.Tests.{lt-leb, le-leb}
+use Rattle.whole.proofs.Machine.{back, difference-fits}
+use Rattle.count.specs.Count.{signed, count}
+use Rattle.count.proofs.Halves.{kept, rounded}
+use Rattle.count.proofs.Fields.{digits, count-of-bits}
 use Rattle.count.proofs.nearest_of_bits.Statement.{statement}
 use Rattle.count.proofs.nearest_of_bits.Tie as tie
 
-returns : tie.Need-returns
-returns c = sym (none-is (c .before .args .b) (c .if1 .taken))
+places-of-requires : tie.Need-places-of-requires
+places-of-requires c κs = search needs
 
-sub-h : tie.Need-sub-h
-sub-h c = search needs
+add-halved : tie.Need-add-halved
+add-halved c = search needs
 
-add-digits : tie.Need-add-digits
-add-digits c = search needs
+sign-le : (b : ℕ) → b < 2 ^ 64 → b / 2 ^ 63 ≤ 1
+sign-le b h = le-of-suc-le-suc (div-lt-iff-lt-mul (pow-pos 63) .1 h)
 
 halved-requires : tie.Need-halved-requires
-halved-requires c κs = search needs
+halved-requires c κs =
+    let wide : c .before .args .b < 2 ^ 64 = search needs in
+    (omega arith, (omega arith, (sign-le (c .before .args .b) wide, c .places-of .ensures .0)))
 
-sub-halved : tie.Need-sub-halved
-sub-halved c = search needs
+-- the count of what was halved, by the sign
+module _ (c : tie.After-halved) where
+  abbrev b : ℕ
+  b = c .before .before .args .b
 
-halved-requires-2 : tie.Need-halved-requires-2
-halved-requires-2 c κs = search needs
+  size-is : (s : Bool) → leb (2 ^ 63) b ≡ s → digits b - b / 2 ^ 63 ≡ kept s (digits b) → count (ofBits binary64 b) ≡ signed s (((digits b - b / 2 ^ 63) / 2 ^ c .before .places-of .result + 1) / 2)
+  unfolding rounded
+  size-is s e k = count-of-bits b (c .before .places-of .result) (c .before .places-of .ensures .1) (c .before .places-of .ensures .2) ∙ rw (e, k)
 
--- what is taken from zero
-negated : (c : tie.After-halved2) → SFits w64 (pos 0 -ℤ c .halved2 .result)
-negated c = difference-fits w64 (pos 0) (c .halved2 .result) (omega (arith, c .halved2 .ensures .1))
+  -- what is taken from zero
+  negated : SFits w64 (pos 0 -ℤ c .halved .result)
+  negated = difference-fits w64 (pos 0) (c .halved .result) (omega (arith, c .halved .ensures .1))
 
 sub-result : tie.Need-sub-result
-sub-result c = rw (back w64 (c .halved2 .result) (c .halved2 .ok)) (negated c)
+sub-result c = rw (back w64 (c .before .halved .result) (c .before .halved .ok)) (negated (c .before))
+
+returns : tie.Need-returns
+unfolding signed
+returns c =
+    let a = c .before in
+    let low : b a < 2 ^ 63 = omega arith in
+    let kept-is : digits (b a) - b a / 2 ^ 63 ≡ digits (b a) = omega arith in
+    back w64 (a .halved .result) (a .halved .ok) ∙ a .halved .ensures .0 ∙ sym (size-is a false (lt-leb (2 ^ 63) (b a) low) kept-is)
 
 returns-2 : tie.Need-returns-2
-unfolding rounded signed
+unfolding signed
 returns-2 c =
-    let a = c .before .before in
-    let is = above-is (a .before .args .b) (a .if1 .left) (a .before .pre) (c .before .if2 .taken) in
-    back w64 (c .halved .result) (c .halved .ok) ∙ c .halved .ensures .0 ∙ sym is
-
-returns-3 : tie.Need-returns-3
-unfolding rounded signed
-returns-3 c =
-    let a = c .before .before in
-    let is = below-is (a .before .args .b) (a .if1 .left) (a .before .pre) (c .before .if2 .left) in
-    rw (back w64 (c .halved2 .result) (c .halved2 .ok), toZ-ofZ (negated c))
-    (+ℤ-idl (negℤ (c .halved2 .result)) ∙ ap negℤ (c .halved2 .ensures .0) ∙ sym is)
+    let a = c .before in
+    let wide : b a < 2 ^ 64 = search needs in
+    let high : 2 ^ 63 ≤ b a = omega arith in
+    let one : b a / 2 ^ 63 ≡ 1 = le-antisymm (sign-le (b a) wide) (le-div-iff-mul-le (pow-pos 63) .1 high) in
+    let kept-is : digits (b a) - b a / 2 ^ 63 ≡ digits (b a) - 1 = ap (λ (k : ℕ). digits (b a) - k) one in
+    rw (back w64 (a .halved .result) (a .halved .ok), toZ-ofZ (negated a))
+    (+ℤ-idl (negℤ (a .halved .result)) ∙ ap negℤ (a .halved .ensures .0) ∙ sym (size-is a true (le-leb (2 ^ 63) (b a) high) kept-is))
 
 pub nearest-of-bits-spec : {M : Type 1} → statement M
 nearest-of-bits-spec =
     tie.close
     (tie.spec
-    returns
-    sub-h
-    add-digits
+    places-of-requires
+    add-halved
     halved-requires
-    sub-halved
-    halved-requires-2
     sub-result
-    returns-2
-    returns-3)
+    returns
+    returns-2)

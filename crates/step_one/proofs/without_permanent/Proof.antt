@@ -1,31 +1,19 @@
--- A count of at most 2^52 has room for the permanent part.
+-- C20 has room for the permanent part.
 use borrow.Author.Needs.{needs}
 use mathlib.Core.Path.{_≡_, refl, _∙_}
-use mathlib.Core.List.{List, [], _∷_}
-use Prim.Native.Nat.{ℕ, zero, suc, _^_, _≤_}
 use native.Mathlib.Omega.{arith}
-use lib.IntN.{ℤ, pos, natAbs, _-ℤ_}
-use lib.ListN.{getD, set}
+use lib.IntN.{ℤ, pos, _-ℤ_}
+use lib.ListN.{getD}
 use mir.Syntax.{w64}
 use mir.Val.{SFits, toZ, ofZ}
 use mir.Facts.{toZ-ofZ}
 use Rattle.whole.proofs.Parts.{fits-abs}
-use Rattle.whole.proofs.Machine.{back, abs-difference}
+use Rattle.whole.proofs.Machine.{back}
 use Rattle.permanent.specs.Systems.{permanentPart}
-use Rattle.permanent.proofs.Constants.{part-small}
 use Rattle.step_one.specs.StepOne.{withoutPermanent}
-use Rattle.step_one.specs.Ready.{Small}
+use Rattle.step_one.proofs.Permanent.{less-small}
 use Rattle.step_one.proofs.without_permanent.Statement.{statement}
 use Rattle.step_one.proofs.without_permanent.Tie as tie
-
--- one count of ten put anew
-set-small : (by : List ℤ) (z : ℤ) → Small 52 by → natAbs z ≤ 2 ^ 53 → Small 53 (set by 0 z)
-set-small [] z h l = record { size = λ k. omega arith }
-set-small (x ∷ by) z h l = record { size = go }
-  where
-    go : (k : ℕ) → natAbs (getD (z ∷ by) k (pos 0)) ≤ 2 ^ 53
-    go zero = l
-    go (suc k) = omega (arith, h .size (suc k))
 
 -- once the permanent part is known
 module _ (c : tie.After-permanent-part) where
@@ -41,11 +29,8 @@ module _ (c : tie.After-permanent-part) where
   part-is : toZ w64 (ofZ w64 (c .permanent-part .result)) ≡ permanentPart (start .args .love)
   part-is = back w64 (c .permanent-part .result) (c .permanent-part .ok) ∙ c .permanent-part .ensures
 
-  less-small : natAbs (c20 -ℤ permanentPart (start .args .love)) ≤ 2 ^ 53
-  less-small = omega (arith, start .pre .size 0, part-small (start .args .love), abs-difference c20 (permanentPart (start .args .love)))
-
   less : SFits w64 (c20 -ℤ permanentPart (start .args .love))
-  less = fits-abs w64 (c20 -ℤ permanentPart (start .args .love)) (omega (arith, less-small))
+  less = fits-abs w64 (c20 -ℤ permanentPart (start .args .love)) (omega (arith, less-small (start .args .love) (start .args .by) (start .pre)))
 
 array-copy-out-out : tie.Need-array-copy-out-out
 array-copy-out-out c = search needs
@@ -61,7 +46,7 @@ array-set-from-out c = search needs
 
 returns : tie.Need-returns
 unfolding withoutPermanent
-returns c = rw (toZ-ofZ (c20-fits c), part-is c, toZ-ofZ (less c)) (refl, set-small (start c .args .by) _ (start c .pre) (less-small c))
+returns c = rw (toZ-ofZ (c20-fits c), part-is c, toZ-ofZ (less c)) refl
 
 pub without-permanent-spec : {M : Type 1} → statement M
 without-permanent-spec =

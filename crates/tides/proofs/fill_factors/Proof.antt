@@ -3,10 +3,8 @@ use borrow.Author.Needs.{needs}
 use mathlib.Core.List.{List}
 use mathlib.Core.Path.{refl}
 use Prim.Native.Nat.{ℕ}
-use native.Mathlib.Omega.{arith}
 use lib.IntN.{ℤ}
 use Rattle.sheet.specs.Sheet.{lineCount}
-use Rattle.sheet.proofs.Acceptance.{accepted}
 use Rattle.wave.specs.Wave.{sin, cos}
 use Rattle.wave.proofs.Size.{sin-size, cos-size}
 use Rattle.tides.specs.Tides.{linePhase, fcos, fsin}
@@ -30,13 +28,13 @@ module _ (c : tie.After-fill-waves) where
   sine f = sin (linePhase sheet (start .args .phases) f)
 
   cosines-raised : Raised cosine (lineCount sheet) (c .fill-waves .last .1 .1 .1 .0)
-  cosines-raised = rw (start .pre .0 .laid .lines) at (c .fill-waves .ensures .cosines)
+  cosines-raised = c .fill-waves .ensures .cosines
 
   sines-raised : Raised sine (lineCount sheet) (c .fill-waves .last .1 .1 .1 .1 .0)
-  sines-raised = rw (start .pre .0 .laid .lines) at (c .fill-waves .ensures .sines)
+  sines-raised = c .fill-waves .ensures .sines
 
 fill-waves-requires : tie.Need-fill-waves-requires
-fill-waves-requires c κs = let p = c .before .before .before .pre .0 in (omega (arith, p .laid .lines, accepted _ (p .own) .shape .lines-most), (refl, refl))
+fill-waves-requires c κs = (c .before .before .before .pre .0, (refl, refl))
 
 fill-rows-requires : tie.Need-fill-rows-requires
 fill-rows-requires c κs =

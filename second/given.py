@@ -1,0 +1,168 @@
+"""What is given to the calls: fields, phases, bodies and sheets, drawn by a Chance."""
+
+import struct
+from math import inf, nan, nextafter
+
+import tides as t
+
+EDGE = t.FIELD_BOUND
+U32 = (1 << 32) - 1
+LEAST_32, LEAST_64 = -(1 << 31), -(1 << 63)
+NONE = (0,) * 6
+PLACES = [(n, m) for n in range(1, 13) for m in range(n + 1)]
+
+
+def spoilt(entries, i, entry):
+    """The list with one entry changed."""
+    return [*entries[:i], entry, *entries[i + 1:]]
+
+
+# --- Fields and phases ---
+
+def entry(chance):
+    return chance.one(0, EDGE, -EDGE, chance.between(-EDGE, EDGE), chance.between(-10**12, 10**12))
+
+
+def varied_field(chance, N):
+    """A field of entries that all differ."""
+    return N, *([chance.between(-10**12, 10**12) for _ in range(t.size(N))] for _ in 'CS')
+
+
+def any_field(chance, N):
+    """A field of one entry throughout, but for a few of every size."""
+    lists = []
+    for _ in 'CS':
+        entries = [entry(chance)] * t.size(N)
+        for _ in range(chance.below(8)):
+            entries[chance.below(len(entries))] = entry(chance)
+        lists.append(entries)
+    return N, *lists
+
+
+def phase(chance):
+    """A phase from anywhere in the turn, or one beside the edge of an eighth."""
+    return chance.one(chance.below(1 << 32), chance.below(1 << 32), (chance.below(8) << 29) + chance.between(-2, 2) & U32)
+
+
+def phases(chance):
+    return tuple(phase(chance) for _ in range(6))
+
+
+# --- Bodies ---
+
+def placed(kind, u, v, w, r):
+    """A place of either kind, in a direction."""
+    return (kind, u, v, w, r) if kind == t.DIRECTION else (kind, u * r, v * r, w * r, r)
+
+
+def body(chance, ratio, low, high):
+    return ratio, placed(chance.one(t.DIRECTION, t.RECTANGULAR), *chance.direction(), chance.real(low, high))
+
+
+def moon(chance):
+    return body(chance, 0.0123000371, 3.5e8, 4.1e8)
+
+
+def sun(chance):
+    return body(chance, 332946.0487, 1.47e11, 1.53e11)
+
+
+def spoilt_body(one, at, value):
+    """The body with one of ratio, x or u, y or v, z or w, r changed."""
+    ratio, (kind, *floats) = one
+    numbers = spoilt([ratio, *floats], at, value)
+    return numbers[0], (kind, *numbers[1:])
+
+
+GOOD = [(1e-3, placed(kind, 0.0, -0.6, 0.8, 4e8)) for kind in (t.DIRECTION, t.RECTANGULAR)]
+AXES = [(1.0, 0.0, 0.0), (0.0, -1.0, 0.0), (0.0, 0.0, 1.0), (0.6, 0.0, 0.8), (-0.0, 0.6, -0.8), (0.6, -0.8, -0.0), (5e-324, 0.0, -1.0)]
+
+
+def faulty_bodies():
+    """Bodies with one fault each, after the number of the refusal: 3, 4 or 5."""
+    threes = [spoilt_body(one, at, bad) for one in GOOD for at in range(5) for bad in (nan, -nan, inf, -inf)]
+    distances = nextafter(1e8, 0), nextafter(1e12, inf), 0.0, -0.0, -4e8, 5e-324, 1.7e308
+    ratios = 0.0, -0.0, -5e-324, -1.0, nextafter(1e6, inf), 1.7e308
+    fours = [spoilt_body(one, 4, r) for one in GOOD for r in distances] + [spoilt_body(one, 0, ratio) for one in GOOD for ratio in ratios]
+    fives = [spoilt_body(one, at, bad) for one in GOOD for at in (1, 2, 3) for bad in (1e160, -1.7e308, 0.5 * one[1][4], 1e-5 * one[1][4])]
+    fives += [(1.0, (kind, *[huge] * 3, 1e9)) for kind in (t.DIRECTION, t.RECTANGULAR) for huge in (0.0, 1e154, 1.7e308, -1.7e308)]
+    return [(number, one) for number, bodies in ((3, threes), (4, fours), (5, fives)) for one in bodies]
+
+
+# --- Sheets ---
+
+def write_sheet(lines, rows, places):
+    """The bytes of a sheet; nothing is tested, so faults can be written too."""
+    data = struct.pack('<H', len(lines)) + b''.join(struct.pack('<6b', *line) for line in lines)
+    data += struct.pack('<H', len(rows)) + b''.join(struct.pack(f'<{len(row)}i', *row) for row in rows)
+    data += struct.pack('<H', len(places))
+    for n, m, quads in places:
+        data += bytes((n, m)) + b''.join(struct.pack('<4i', *quad) for quad in quads)
+    return data
+
+
+def row(chance, lines):
+    """Admittances whose absolute values add to the whole 4,000,000, or to less."""
+    cuts = sorted(chance.between(0, 4_000_000) for _ in range(lines - 1))
+    ends = [*cuts, chance.one(4_000_000, chance.between(cuts[-1] if cuts else 0, 4_000_000))]
+    return [chance.one(1, -1) * (b - a) for a, b in zip([0, *cuts], ends)]
+
+
+def quad(chance, m, edge):
+    count = lambda: chance.one(edge, -edge, chance.between(-edge, edge))
+    return tuple(0 if m == 0 and i % 2 else count() for i in range(4))
+
+
+def sheet(chance, lines, tides, places, top=12):
+    """Lines, rows and places that are right, the places of degree 1..top."""
+    where = [place for place in PLACES if place[0] <= top]
+    where = chance.some(min(places, len(where)), where)
+    return ([tuple(chance.one(chance.between(-13, 13), 13, -13, 0, 1) for _ in range(6)) for _ in range(lines)],
+            [row(chance, lines) for _ in range(tides)],
+            [(n, m, [quad(chance, m, chance.one(1 << 24, 1000, 1)) for _ in range(tides)]) for n, m in where])
+
+
+def shaped_sheet(lines, tides, places):
+    """The bytes of a sheet of these counts, in their ranges or not: its length is exact for them, its values are right where they can be."""
+    where = [*PLACES, (13, 0), (13, 1)][:places]
+    return write_sheet([(1, 0, 0, 0, 0, 0)] * lines, [[100] * lines] * tides, [(*place, [(1000, 0, -500, 0)] * tides) for place in where])
+
+
+def wave_sheet():
+    """The bytes of a sheet that gives, at C22 and S22, cosine and sine of the phase tau in their units: 16 tides of 4 times the wave, 2^24 each."""
+    return write_sheet([(1, 0, 0, 0, 0, 0)], [[4_000_000]] * 16, [(2, 2, [(1 << 24, 0, 0, 1 << 24)] * 16)])
+
+
+SMALL = (
+    [(0,) * 6, (13, -13, 0, 0, 0, 1)],
+    [[4_000_000, 0], [-2_000_000, 2_000_000], [1, -1]],
+    [(1, 0, [(1 << 24, 0, -(1 << 24), 0)] * 3), (1, 1, [(1, 2, 3, 4)] * 3), (5, 0, [(0,) * 4] * 3)])
+
+
+def faulty_sheets():
+    """Sheets with one fault of refusal 8 each, every range just passed among them."""
+    lines, rows, places = SMALL
+    still, zero, beyond = [[0, 0]], [(0,) * 4], (1 << 24) + 1
+    for i in range(6):
+        for v in (14, -14, 127, -128):
+            yield [lines[0], spoilt(lines[1], i, v)], rows, places
+            yield [spoilt(lines[0], i, v), lines[1]], rows, []
+    for bad in ([4_000_000, 1], [-2_000_000, 2_000_001], [0, -4_000_001], [LEAST_32, 0], [0, LEAST_32], [LEAST_32] * 2, [-1 - LEAST_32] * 2):
+        yield lines, [bad], []
+        yield lines, [*rows[:2], bad], places
+    yield [(0,) * 6] * 4, [[LEAST_32] * 4], []                                  # adds to 0 in 32 bits, and in 33
+    yield [(0,) * 6] * 128, [[LEAST_32] * 128], []
+    yield [(0,) * 6] * 128, [[31_250] * 127 + [-31_251]], []
+    for bad in ((0, 0), (0, 1), (13, 0), (13, 13), (255, 255), (2, 3), (1, 2), (12, 13), (128, 0), (2, 255)):
+        yield lines, still, [(*bad, zero)]
+        yield lines, still, [(1, 1, zero), (*bad, zero)]
+    for one, two in (((2, 2), (2, 2)), ((2, 2), (2, 1)), ((3, 0), (2, 2)), ((12, 12), (1, 0)), ((4, 4), (4, 0))):
+        yield lines, still, [(*one, zero), (*two, zero)]
+        yield lines, still, [(1, 0, zero), (*one, zero), (*two, zero), (12, 12, zero)]
+    for i in range(4):
+        for v in (beyond, -beyond, LEAST_32, -1 - LEAST_32):
+            yield lines, still, [(2, 2, [spoilt(zero[0], i, v)])]
+            yield lines, still * 3, [(2, 1, zero * 3), (2, 2, zero * 2 + [spoilt(zero[0], i, v)])]
+    for bad in ((0, 1, 0, 0), (0, 0, 0, -1), (0, -1, 0, 0), (0, 0, 0, 1), (0, 1 << 24, 0, 0)):
+        yield lines, still, [(3, 0, [bad])]
+        yield lines, still * 2, [(2, 2, zero * 2), (3, 0, zero + [bad]), (3, 1, zero * 2)]

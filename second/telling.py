@@ -1,0 +1,146 @@
+"""Inputs at which a slip of a rounding, of an order of operations or of a bound shows in an answer.
+
+A slip in step one's order of operations moves a product by a last bit or two. The count of an ordinary product does not change by that; the count
+of a product that is a whole number and a half, or the float next to such a one, does.
+"""
+
+from math import asin, floor, inf, nextafter, sqrt
+
+import tides as t
+from given import placed
+
+# --- Step one ---
+
+COEFFICIENTS = [(n, m, letter) for n, m in [*t.NORMAL, (4, 0), (4, 1), (4, 2)] for letter in ('C', 'S')[:1 + (m > 0)]]
+
+
+def near_meridian(u, v, w, which):
+    """The direction, moved to where the cosine or the sine of the longitude, or the cosine of twice it, is small."""
+    u, v = ((u / 256, v), (u, v / 256), (v + u / 256, v))[which]
+    length = sqrt(u * u + v * v + w * w)
+    return u / length, v / length, w / length
+
+
+def pair(chance):
+    """The Moon and the Sun, or two near bodies, whose parts of degree 3 are of one size; as they are, or of far less mass.
+
+    One pair in four lies near one meridian: there the small kI*Q or kI*P weighs as much as the other term.
+    """
+    directions = [chance.direction(), chance.direction()]
+    if chance.one_in(4):
+        which = chance.below(3)
+        directions = [near_meridian(*direction, which) for direction in directions]
+    near = chance.one_in(2)
+    bodies = []
+    for direction, ratio, low, high in zip(directions, (0.0123000371, 332946.0487), (3.5e8, 1.47e11), (4.1e8, 1.53e11)):
+        r = chance.real(1e8, 4e8) if near else chance.real(low, high)
+        bodies.append((chance.real(0.01, 1.0) if near else ratio, placed(chance.one(t.DIRECTION, t.RECTANGULAR), *direction, r)))
+    return scaled(*bodies, chance.one(1.0, 1.0, 2.0**-8, 2.0**-16, 2.0**-24))
+
+
+def scaled(moon, sun, factor):
+    return (moon[0] * factor, moon[1]), (sun[0] * factor, sun[1])
+
+
+def product_of(coefficient, moon, sun, love):
+    n, m, letter = coefficient
+    return t.step_one_products(moon, sun, love)[n, m]['CS'.index(letter)]
+
+
+def moved_to(goal, coefficient, moon, sun, love):
+    """The pair with its masses changed until the coefficient's product is the float goal, or None where a few steps do not reach it."""
+    moon, sun = scaled(moon, sun, goal / product_of(coefficient, moon, sun, love))
+    lighter = abs(product_of(coefficient, moon, sun, love)) > abs(goal)
+    for _ in range(8):
+        product = product_of(coefficient, moon, sun, love)
+        if product == goal:
+            return moon, sun
+        if (abs(product) > abs(goal)) != lighter:
+            return None
+        moon = nextafter(moon[0], 0.0 if lighter else inf), moon[1]
+    return None
+
+
+def at_a_half(chance, coefficient, love):
+    """A Moon and a Sun whose product is a whole number and a half, or in one case out of two the float next below that."""
+    while True:
+        moon, sun = pair(chance)
+        half = floor(product_of(coefficient, moon, sun, love)) + 0.5
+        found = moved_to(chance.one(half, nextafter(half, -inf)), coefficient, moon, sun, love)
+        if found:
+            return found
+
+
+def at_the_bound(chance, coefficient, love, goal):
+    """Two near bodies whose product is the float goal, beside 2^52 or -2^52, the products of all other coefficients being smaller."""
+    while True:
+        bodies = [(1.0, placed(chance.one(t.DIRECTION, t.RECTANGULAR), *chance.direction(), chance.real(1e8, 1.2e8))) for _ in 'MS']
+        product = product_of(coefficient, *bodies, love)
+        if (product > 0) != (goal > 0) or max(abs(x) for two in t.step_one_products(*bodies, love).values() for x in two) > abs(product):
+            continue
+        found = moved_to(goal, coefficient, *bodies, love)
+        if found:
+            return found
+
+
+def at_length_one(chance, goal):
+    """A direction whose (u*u + v*v) + w*w is the float goal, while the squares added in each other order give another sum."""
+    while True:
+        u, v, w = (x * sqrt(goal) for x in chance.direction())
+        for _ in range(6):
+            a, b, c = u * u, v * v, w * w
+            total = (a + b) + c
+            if total == goal and (a + c) + b != goal != (b + c) + a:
+                return u, v, w
+            w = nextafter(w, 2 * w if total < goal else 0.0)
+
+
+# --- Sine, cosine and step two ---
+
+def sine_phase(value):
+    """A phase of the first two eighths whose sine is this many units, or None."""
+    near = round(asin(value / 2**30) * 2**32 / 6.283185307179586)
+    return next((near + d for d in range(-3, 4) if t.sine(near + d) == value), None)
+
+
+def tie_phases():
+    """Six phases at which the sum for S22, C22, C21, S21 or C20 is a whole number and a half, of either sign, elastic and anelastic.
+
+    300, 450700 and 450100 are 4 times an odd number, so that a sine or cosine of 2^27 times an odd number makes a tie.
+    """
+    for odd in (1, 3, 5, 7):
+        at = sine_phase(odd << 27)
+        if at is None:
+            continue
+        for angle in (at, -at):
+            yield 0, -angle % t.TURN, 0, 0, 0, 0                        # 245,655 has the phase 2 tau - s + p, 255,555 the phase 2 tau
+            yield 1 << 29, angle % t.TURN, 0, 0, 0, 0
+            yield angle % t.TURN, 0, 0, 0, 0, 0                         # every diurnal line has the phase tau
+            yield (t.UNIT - angle) % t.TURN, 0, 0, 0, 0, 0
+    yield 0, 3970456009, 0, 0, 0, 3629217367                            # C20 anelastic: -1412.5 and 9862.5 counts
+    yield 0, 3202593653, 0, 0, 0, 1775244711
+
+
+# Each tells sine or cosine from the recipe with one divisor, constant or rounding changed (check.py holds them to that). Those that tell the
+# first steps' roundings are some of very few: all 2^29 angles were tried.
+WAVE_PHASES = (
+    609463915, 608984082, 555382739, 2741960305, 267614066, 337360823, 338673687, 344220344, 469887812, 497543365, 499014564, 518311828,
+    518478318, 530010508, 530120089, 530618170, 531885123, 534837871)
+
+
+def wave_phases():
+    """The phases above in each of the eight eighths: sine and cosine, either sign."""
+    for phase in WAVE_PHASES:
+        a = t.eighth_of(phase)[2]
+        yield from ((e << 29) + (t.EIGHTH - a if e % 2 else a) & t.TURN - 1 for e in range(8))
+
+
+# --- A day ---
+
+# The Moon, the Sun and the phases of 2004 May 17, 0h; anelastic, step one gives the degree-2 counts below, step two the five after them.
+DAY_BODIES = (
+    (0.012300034, (t.RECTANGULAR, -355452275.2669934, 164619588.90359762, 78939894.915495992, 399596591.64279854)),
+    (332946.048, (t.RECTANGULAR, -142729805997.8396, 2252600386.0736647, 50151303252.337364, 151301106891.4837)))
+DAY_PHASES = 327043742, 329517021, 656638906, 3117674196, 3812369497, 3376471194
+DAY_STEP_ONE = {(2, 0): [90693, 0], (2, 1): [-3837629, 950496], (2, 2): [6230270, -4328639]}
+DAY_STEP_TWO = 33089, 427078, 333684, -787, 696
