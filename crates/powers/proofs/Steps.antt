@@ -1,21 +1,13 @@
--- The orders of a list, one more at a time.
-use mathlib.Core.Path.{_≡_, refl, sym, _∙_, subst}
+-- The recurrences of E and F from order m - 1 to m, as the code goes.
+use mathlib.Core.Path.{_≡_, refl, ap, _∙_}
 use mathlib.Core.List.{List, [], _∷_}
-use Prim.Native.Nat.{ℕ, zero, suc, _+_, _-_, _≤_, _<_}
-use native.Mathlib.Nat.{lt-irrefl, ne-of-lt}
+use Prim.Native.Nat.{ℕ, zero, suc, _-_, _<_}
+use native.Mathlib.Nat.{lt-irrefl}
 use native.Mathlib.Numerals.{sub-one}
-use native.Mathlib.Decide.{ℕ-discrete}
 use native.Mathlib.Omega.{arith}
 use lib.Ieee.{Float, binary64, ofBits, round}
-use lib.ListN.{length, getD, set}
-use lib.Seq.{ext-getD, getD-set-same, getD-set-other}
-use Rattle.doubles.specs.Doubles.{_*·_, _+·_, _-·_}
 use Rattle.powers.specs.declared.Power.{Power}
-use Rattle.powers.specs.Powers.{E, F, power, powers, none, UpTo, Raises}
-
--- both of an order, from both of the one before
-abbrev next : Power → Float → Float → Power
-next p u v = record { e = u *· p .e -· v *· p .f; f = u *· p .f +· v *· p .e }
+use Rattle.powers.specs.Powers.{E, F, power, next, powers}
 
 module _ (u v : Float) where
   next-is : (m : ℕ) → 0 < m → next (power (m - 1) u v) u v ≡ power m u v
@@ -23,27 +15,16 @@ module _ (u v : Float) where
   next-is zero h = absurd (lt-irrefl 0 h)
   next-is (suc m) h = rw sub-one
 
-  pub raised-up : (m : ℕ) (l : List Power) → length l ≡ 4 → Raises m u v l → UpTo m u v (set l m (next (getD l (m - 1) none) u v))
-  raised-up m l four r = record { at = λ j h. go j h (ℕ-discrete j m) }
-    where
-      new : next (getD l (m - 1) none) u v ≡ power m u v
-      new = rw (r .before .at (m - 1) (omega arith)) (next-is m (r .some))
-
-      go : (j : ℕ) → j ≤ m → Dec (j ≡ m) → getD (set l m (next (getD l (m - 1) none) u v)) j none ≡ power j u v
-      go j h (yes same) = rw same (getD-set-same l m _ none (omega (arith, r .most)) ∙ new)
-      go j h (no other) = getD-set-other l m j _ none other ∙ r .before .at j (omega arith)
-
-  pub started : (m : ℕ) → m ≡ 0 → let p : Power = record { e = ofBits binary64 0x3ff0_0000_0000_0000; f = ofBits binary64 0 } in UpTo m u v (p ∷ p ∷ p ∷ p ∷ [])
+  pub started : (m : ℕ) → m ≡ 0 → let p : Power = record { e = ofBits binary64 0x3ff0_0000_0000_0000; f = ofBits binary64 0 } in p ≡ power m u v
   unfolding E F ofBits round
-  started m e = record { at = λ j h. let z : j ≡ 0 = omega arith in rw z }
+  started m e = rw e
 
-  pub all-orders : (l : List Power) → length l ≡ 4 → UpTo 3 u v l → l ≡ powers u v
+  pub raised : (m : ℕ) → 0 < m → (p q : Power) → p ≡ power (m - 1) u v → q ≡ next p u v → q ≡ power m u v
+  raised m h p q e f = f ∙ ap (λ (x : Power). next x u v) e ∙ next-is m h
+
+  pub in-turn : (p0 p1 p2 p3 : Power) → p0 ≡ power 0 u v → p1 ≡ power 1 u v → p2 ≡ next p1 u v → p3 ≡ next p2 u v → (p0 ∷ p1 ∷ p2 ∷ p3 ∷ []) ≡ powers u v
   unfolding powers
-  all-orders l four up = ext-getD none l (power 0 u v ∷ power 1 u v ∷ power 2 u v ∷ power 3 u v ∷ []) four (λ j h. up .at j (omega arith) ∙ at j (omega arith))
-    where
-      at : (j : ℕ) → j < 4 → power j u v ≡ getD (power 0 u v ∷ power 1 u v ∷ power 2 u v ∷ power 3 u v ∷ []) j none
-      at zero h = refl
-      at (suc zero) h = refl
-      at (suc (suc zero)) h = refl
-      at (suc (suc (suc zero))) h = refl
-      at (suc (suc (suc (suc j)))) h = absurd (omega arith)
+  in-turn p0 p1 p2 p3 a b c d =
+      let two : p2 ≡ power 2 u v = raised 2 (omega arith) p1 p2 b c in
+      let three : p3 ≡ power 3 u v = raised 3 (omega arith) p2 p3 two d in
+      rw (a, b, two, three)

@@ -1,9 +1,7 @@
 -- Document 01, "Step one": E and F.
 use mathlib.Core.List.{List, [], _∷_}
-use mathlib.Core.Path.{_≡_}
-use Prim.Native.Nat.{ℕ, zero, suc, _-_, _≤_, _<_}
+use Prim.Native.Nat.{ℕ, zero, suc}
 use lib.Ieee.{Float, nan}
-use lib.ListN.{getD}
 use Rattle.doubles.specs.Doubles.{_*·_, _+·_, _-·_, number}
 use Rattle.powers.specs.declared.Power.{Power}
 
@@ -29,12 +27,6 @@ powers u v = power 0 u v ∷ power 1 u v ∷ power 2 u v ∷ power 3 u v ∷ []
 abbrev pub none : Power
 none = record { e = nan; f = nan }
 
--- a list has the orders 0 to m
-pub record UpTo (m : ℕ) (u v : Float) (l : List Power) : Type 0 where
-  pub at : (j : ℕ) → j ≤ m → getD l j none ≡ power j u v
-
--- a list that order m is to be put into
-pub record Raises (m : ℕ) (u v : Float) (l : List Power) : Type 0 where
-  pub some : 0 < m
-  pub most : m < 4
-  pub before : UpTo (m - 1) u v l
+-- both of an order, from both of the order before
+abbrev pub next : Power → Float → Float → Power
+next p u v = record { e = u *· p .e -· v *· p .f; f = u *· p .f +· v *· p .e }
