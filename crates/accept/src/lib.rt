@@ -4,7 +4,7 @@ ghost use Prim.Native.Nat.{_≤_};
 ghost use Rattle.refusals.specs.Numbers.{answerNumber};
 ghost use Rattle.sheet.specs.Sheet.{lineCount};
 ghost use Rattle.sheet.specs.Accepted.{shaped, valid, reached, ownRefusal, sheetRefusal};
-ghost use Rattle.sheet.specs.Read.{Laid, Whole, Passed};
+ghost use Rattle.sheet.specs.Inner.{Laid, Whole, Passed};
 use refusals::Answer;
 use refusals::Refusal;
 use sheet::Layout;

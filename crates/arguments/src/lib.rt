@@ -4,7 +4,8 @@ ghost use Prim.Native.Nat.{_^_};
 ghost use lib.IntN.{pos, _*ℤ_};
 ghost use Rattle.arguments.specs.Phase.{modulo, phase};
 
-// The arguments as phases, a turn being 2^32.
+// The arguments as phases, a turn being 2^32; C passes them as they stand.
+#[repr(C)]
 pub struct Phases {
     pub tau: u32,
     pub s: u32,

@@ -3,11 +3,11 @@ use mathlib.Core.Path.{refl}
 use lib.Ieee.{round}
 use Rattle.count.specs.Count.{count}
 use Rattle.doodson.specs.Doodson.{multipliersIn, numberOf, writable, readDoodson, writeDoodson}
-use Rattle.listing.proofs.Cases.{zeros-listed, worked}
 use Rattle.permanent.specs.Systems.{permanentPart, aboveTideFree, movedC20}
 use Rattle.wave.proofs.Cases.{p4}
 use Rattle.whole.specs.Nearest.{nearest}
-use Rattle.cases.proofs.Ocean.{corrections-are, lengths-are}
+use Rattle.cases.proofs.Listing.{zeros-listed, worked}
+use Rattle.cases.proofs.Ocean.{at-zero, at-an-eighth, lengths-are}
 use Rattle.cases.specs.Cases.{Cases}
 
 pub cases : Cases
@@ -23,7 +23,7 @@ cases = record {
   p6-mean = refl;
   p7 = zeros-listed;
   p8 = worked .quarter-turn;
-  p9-zero = corrections-are .0;
-  p9-eighth = corrections-are .1;
+  p9-zero = at-zero;
+  p9-eighth = at-an-eighth;
   p9-lengths = lengths-are;
 }

@@ -8,7 +8,7 @@ use lib.IntN.{ℤ, pos, negℤ}
 use lib.ListN.{replicate, set, take}
 use Rattle.arguments.specs.declared.Multipliers.{Multipliers}
 use Rattle.arguments.specs.declared.Phases.{Phases}
-use Rattle.choices.specs.declared.Frame.the-variants.{CentreOfFigure}
+use Rattle.choices.specs.declared.Frame.{Frame}
 use Rattle.choices.specs.declared.LoveModel.the-variants.{Anelastic}
 use Rattle.choices.specs.declared.PermanentSystem.the-variants.{TideFree, Zero, Mean}
 use Rattle.refusals.specs.Told.Told.{accepted, refused}
@@ -16,12 +16,12 @@ use Rattle.count.specs.Count.{count}
 use Rattle.doodson.specs.Doodson.{readDoodson, writeDoodson}
 use Rattle.refusals.specs.Outcome.{Outcome}
 use Rattle.listing.specs.Listing.{listingOf}
-use Rattle.listing.specs.Text.{ascii}
-use Rattle.ocean.specs.Ocean.{oceanTide}
 use Rattle.permanent.specs.Systems.{movedC20}
 use Rattle.sheet.specs.Accepted.{sheetRefusal}
 use Rattle.step_two.specs.declared.Corrections.{Corrections}
 use Rattle.step_two.specs.StepTwo.{corrections}
+use Rattle.surfgimlet.specs.Calls.{oceanTide}
+use Rattle.text.specs.Text.{ascii}
 use Rattle.wave.specs.Wave.{sin}
 
 -- six multipliers in the order of the arguments
@@ -69,7 +69,7 @@ pub record Cases : Type 0 where
   pub p7 : listingOf (replicate 24 0) ≡ ascii "model C20 C21 S21 C22 S22\nelastic 0 0 450700 -1500 0\nanelastic 10100 0 450100 -1500 0\n"
   -- "tau 2^30, others 0, anelastic: 10100, 450100, 0, 1500, 0"
   pub p8 : corrections (tauAlone (2 ^ 30)) Anelastic ≡ counts (pos 10100) (pos 450100) (pos 0) (pos 1500) (pos 0)
-  -- "phases 0 give 1000, 0; tau 2^29 gives 0, -500. Its 34 bytes pass; 33 or 35: refusal 7."
-  pub p9-zero : oceanTide 4 zeros zeros sheet (tauAlone 0) CentreOfFigure ≡ atPlace22 (pos 1000) (pos 0)
-  pub p9-eighth : oceanTide 4 zeros zeros sheet (tauAlone (2 ^ 29)) CentreOfFigure ≡ atPlace22 (pos 0) (negℤ (pos 500))
+  -- "phases 0 give 1000, 0; tau 2^29 gives 0, -500. Its 34 bytes pass; 33 or 35: refusal 7.", in either frame
+  pub p9-zero : (frame : Frame) → oceanTide 4 zeros zeros sheet (tauAlone 0) frame ≡ atPlace22 (pos 1000) (pos 0)
+  pub p9-eighth : (frame : Frame) → oceanTide 4 zeros zeros sheet (tauAlone (2 ^ 29)) frame ≡ atPlace22 (pos 0) (negℤ (pos 500))
   pub p9-lengths : map (λ s. sheetRefusal s 4) (sheet ∷ take 33 sheet ∷ (sheet ++ 0 ∷ []) ∷ []) ≡ 0 ∷ 7 ∷ 7 ∷ []

@@ -1,10 +1,10 @@
 -- Document 01, "Doodson numbers".
 use mathlib.Core.Bool.{Bool, _&&_, cond}
 use Prim.Native.Nat.{ℕ, _+_, _*_, _/_, _%_, _^_}
-use lib.Dec.{leb}
 use lib.IntN.{ℤ, pos, negsuc, natAbs, _+ℤ_, _-ℤ_}
 use lib.Signed.{leZ}
 use Rattle.arguments.specs.declared.Multipliers.{Multipliers}
+use Rattle.limits.specs.Limits.{isDoodson}
 use Rattle.refusals.specs.Told.{Told}
 use Rattle.refusals.specs.Numbers.{refusalNumber}
 use Rattle.refusals.specs.Told.Told.{accepted, refused}
@@ -16,10 +16,6 @@ use Rattle.doodson.specs.declared.Written.the-variants as written
 -- a number's decimal digit with k digits after it
 abbrev pub digit : ℕ → ℕ → ℕ
 digit number k = number / 10 ^ k % 10
-
--- a number has six digits where it is at most 999,999
-abbrev pub isDoodson : ℕ → Bool
-isDoodson number = leb number 999999
 
 -- six decimal digits, leading zeros kept: n1, n2+5, n3+5, n4+5, n5+5, n6+5
 unfoldable pub multipliersIn : ℕ → Multipliers

@@ -3,7 +3,7 @@ ghost use mathlib.Core.Path.{_≡_};
 ghost use mathlib.Core.Bool.{true};
 ghost use Prim.Native.Nat.{_+_, _*_, _≤_};
 ghost use lib.IntN.{pos, natAbs, _+ℤ_, _-ℤ_};
-ghost use Rattle.doodson.specs.Doodson.{isDoodson, multipliersIn, writable, other, readDoodson, writeDoodson, tellsRead, tellsWritten};
+ghost use Rattle.doodson.specs.Doodson.{multipliersIn, writable, other, readDoodson, writeDoodson, tellsRead, tellsWritten};
 use arguments::Multipliers;
 use refusals::Refusal;
 
@@ -15,13 +15,6 @@ pub enum Read {
 pub enum Written {
     Number(u32),
     Refused(Refusal),
-}
-
-// Whether a number has six digits.
-pub fn is_doodson(number: u32) -> bool
-    ensures { λ r. ⌜ r ≡ isDoodson number ⌝ }
-{
-    number <= 999999
 }
 
 // The multiplier that a digit other than the first writes.
@@ -52,7 +45,7 @@ pub fn multipliers_in(number: u32) -> Multipliers
 pub fn multipliers_of(number: u32) -> Read
     ensures { λ r. ⌜ tellsRead r ≡ readDoodson number ⌝ }
 {
-    if is_doodson(number) {
+    if limits::is_doodson(number) {
         Read::Multipliers(multipliers_in(number))
     } else {
         Read::Refused(Refusal::NotDoodson)

@@ -11,7 +11,6 @@ use Rattle.choices.specs.declared.LoveModel.{LoveModel}
 use Rattle.choices.specs.declared.LoveModel.the-variants.{Elastic, Anelastic}
 use Rattle.lines.specs.Lines.{linePhase}
 use Rattle.wave.specs.Wave.{sin, cos}
-use Rattle.hour.specs.declared.Waves.{Waves}
 
 -- the elastic model has no amplitudes for the long-period lines
 unfoldable pub isUsed : LoveModel → ℕ → Bool
@@ -21,7 +20,7 @@ isUsed Anelastic i = true
 abbrev pub kept : List ℤ → ℕ → ℤ
 kept l i = getD l i (pos 0)
 
--- waves that hold those of the lines used
-pub record Waved (phases : Phases) (love : LoveModel) (w : Waves) : Type 0 where
-  pub cosines : (i : ℕ) → i < 49 → kept (w .cosines) i ≡ cond (isUsed love i) (cos (linePhase phases i)) (pos 0)
-  pub sines : (i : ℕ) → i < 49 → kept (w .sines) i ≡ cond (isUsed love i) (sin (linePhase phases i)) (pos 0)
+-- lists that hold the cosines and the sines of the lines used
+pub record Waved (phases : Phases) (love : LoveModel) (c s : List ℤ) : Type 0 where
+  pub cosines : (i : ℕ) → i < 49 → kept c i ≡ cond (isUsed love i) (cos (linePhase phases i)) (pos 0)
+  pub sines : (i : ℕ) → i < 49 → kept s i ≡ cond (isUsed love i) (sin (linePhase phases i)) (pos 0)

@@ -2,6 +2,7 @@
 ghost use mathlib.Core.Path.{_≡_};
 ghost use mathlib.Core.Bool.{cond};
 ghost use lib.IntN.{pos};
+ghost use lib.ListN.{length};
 ghost use Rattle.arguments.specs.Phase.{phase};
 ghost use Rattle.lines.specs.Inner.{multipliersBy};
 ghost use Rattle.wave.specs.Wave.{sin, cos};
@@ -9,12 +10,6 @@ ghost use Rattle.hour.specs.Inner.{isUsed, Waved};
 use arguments::Phases;
 use choices::LoveModel;
 use wave::Wave;
-
-// The cosines and the sines of the printed lines, in units of 2^-30.
-pub struct Waves {
-    pub cosines: [i32; 49],
-    pub sines: [i32; 49],
-}
 
 // Whether a Love model has amplitudes for a line.
 fn is_used(love: LoveModel, i: usize) -> bool
@@ -37,14 +32,13 @@ fn wave_by(digits: u32, phases: Phases, used: bool) -> Wave
     }
 }
 
-// The waves of the lines that a Love model uses; the others are left zero.
-pub fn waves_of(phases: Phases, love: LoveModel) -> Waves
-    ensures { λ r. ⌜ Waved phases love r ⌝ }
+// The cosines and the sines of the printed lines, in units of 2^-30; zeros for a line that the Love model has no amplitudes for.
+pub fn fill_waves(phases: Phases, love: LoveModel, cosines: &mut [i32; 49], sines: &mut [i32; 49])
+    requires { ⌜ (length (now cosines) ≡ 49) × (length (now sines) ≡ 49) ⌝ }
+    ensures { λ _. ⌜ Waved phases love (now (cosines .exit)) (now (sines .exit)) ⌝ }
 {
     let tables = lines::printed_tables();
     let digits = tables.digits;
-    let mut cosines = [0i32; 49];
-    let mut sines = [0i32; 49];
     let mut i = 0;
     while i < 49 {
         let wave = wave_by(digits[i], phases, is_used(love, i));
@@ -52,5 +46,4 @@ pub fn waves_of(phases: Phases, love: LoveModel) -> Waves
         sines[i] = wave.sine as i32;
         i += 1;
     }
-    Waves { cosines, sines }
 }

@@ -18,7 +18,8 @@ use Rattle.bands.specs.declared.Band.the-variants.{Diurnal, LongPeriod, Semidiu
 use Rattle.choices.specs.declared.LoveModel.{LoveModel}
 use Rattle.choices.specs.declared.LoveModel.the-variants.{Elastic, Anelastic}
 use Rattle.whole.proofs.Tests.{and-left, and-right}
-use Rattle.doodson.specs.Doodson.{isDoodson, digit, multipliersIn}
+use Rattle.doodson.specs.Doodson.{digit, multipliersIn}
+use Rattle.limits.specs.Limits.{isDoodson}
 use Rattle.lines.specs.Lines.{diurnal, longPeriod, semidiurnal, printed, lineAt, multipliersAt, bandAt, inCounts, inModel, printedLine, nowhere, Printed}
 use Rattle.lines.specs.Inner.{digitsOf, numberIn, multipliersBy, digits, firsts, seconds}
 

@@ -16,7 +16,8 @@ use Rattle.choices.specs.declared.LoveModel.the-variants.{Elastic, Anelastic}
 use Rattle.refusals.specs.Numbers.{refusalNumber}
 use Rattle.refusals.specs.Told.{Told}
 use Rattle.refusals.specs.Told.Told.{accepted, refused}
-use Rattle.doodson.specs.Doodson.{isDoodson, multipliersIn}
+use Rattle.doodson.specs.Doodson.{multipliersIn}
+use Rattle.limits.specs.Limits.{isDoodson}
 use Rattle.lines.specs.declared.Sought.{Sought}
 use Rattle.lines.specs.declared.Sought.the-variants.{Line, Refused}
 

@@ -287,7 +287,7 @@ pub enum Sought {
 pub fn find_line(number: u32) -> Sought
     ensures { λ r. ⌜ tells r ≡ findLine number ⌝ }
 {
-    if !doodson::is_doodson(number) {
+    if !limits::is_doodson(number) {
         return Sought::Refused(Refusal::NotDoodson);
     }
     let t = printed_tables();

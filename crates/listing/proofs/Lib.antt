@@ -1,6 +1,3 @@
-pub mod Puts
-pub mod Decimals
-pub mod Signs
 pub mod Columns
 pub mod Lengths
-pub mod Cases
+pub mod OneResult

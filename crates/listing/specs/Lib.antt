@@ -1,3 +1,1 @@
-pub mod Text
 pub mod Listing
-pub mod Put

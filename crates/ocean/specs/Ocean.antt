@@ -1,4 +1,4 @@
--- Document 01, "Model sheet and ocean tide (002)": the correction of each place, from the phases.
+-- Document 01, "Model sheet and ocean tide (002)": what each place of a sheet gains.
 use mathlib.Core.List.{List}
 use Prim.Native.Nat.{ℕ}
 use lib.IntN.{ℤ}

@@ -1,6 +1,6 @@
-// The ocean tide of a model sheet (002; document 01, "Model sheet and ocean tide"), added to a field.
+// The ocean tide of a model sheet (002; document 01, "Model sheet and ocean tide"), added to two lists.
 ghost use Rattle.places.specs.Inner.{WithFactors};
-ghost use Rattle.sheet.specs.Read.{Passed};
+ghost use Rattle.sheet.specs.Inner.{Passed};
 ghost use Rattle.ocean.specs.Inner.{Wide, PlacesAdded, TideAdded};
 use arguments::Phases;
 use choices::Frame;

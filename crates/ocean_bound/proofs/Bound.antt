@@ -1,18 +1,15 @@
 -- Each correction lies within its place's own bound of the exact sum, and that bound is at most nine counts for every accepted sheet.
 use mathlib.Core.Bool.{Bool, true, false, cond}
-use mathlib.Core.List.{List, [], _∷_}
-use mathlib.Core.Path.{_≡_, refl, sym, ap, subst, _∙_}
+use mathlib.Core.List.{List}
+use mathlib.Core.Path.{_≡_, refl, sym, subst}
 use Prim.Native.Nat.{ℕ, zero, suc, _+_, _*_, _^_, _≤_, _<_, zero-le}
 use native.Mathlib.Nat.{mul-le-mul, mul-le-mul-right}
 use native.Mathlib.Omega.{arith}
 use lib.IntN.{ℤ, pos, natAbs, _+ℤ_, _-ℤ_, _*ℤ_, *ℤ-comm, zero-*ℤ}
-use lib.ListN.{getD}
 use Rattle.arguments.specs.declared.Phases.{Phases}
 use Rattle.choices.specs.declared.Frame.{Frame}
-use Rattle.ocean.specs.Ocean.{dC, dS, oceanRefusal, oceanTide}
-use Rattle.ocean.proofs.Entries.{c-here, s-here}
-use Rattle.ocean.proofs.Passing.{passing}
-use Rattle.places.specs.Places.{placeSum, skipped, unlessSkipped, correction, indexOf}
+use Rattle.ocean.specs.Ocean.{dC, dS}
+use Rattle.places.specs.Places.{placeSum, skipped, unlessSkipped, correction}
 use Rattle.series.specs.Exact.{scale}
 use Rattle.series.proofs.Sums.{sines-near, cosines-near, pairs-near}
 use Rattle.sheet.specs.Accepted.{ownRefusal}
@@ -22,10 +19,9 @@ use Rattle.tides.specs.Tides.{linePhase, lineSum, factor, fcos, fsin}
 use Rattle.tides.proofs.Factors.{sum-same}
 use Rattle.whole.specs.Nearest.{nearest}
 use Rattle.whole.specs.Sum.{sumTo, weightTo}
-use Rattle.whole.proofs.Ring.{equal, !, _⊕_, _⊖_}
 use Rattle.whole.proofs.Running.{weight-size}
 use Rattle.whole.proofs.Within.{Within, within-nearest}
-use Rattle.ocean_bound.specs.Exact.{exactFcos, exactFsin, partsOfACount, exactSum, atMostNineCounts, CloseToExact, moved, EntriesCloseToExact, rowWeight, factorError, fittedBound}
+use Rattle.ocean_bound.specs.Exact.{exactFcos, exactFsin, partsOfACount, exactSum, atMostNineCounts, CloseToExact, rowWeight, factorError, fittedBound}
 
 -- ---- a tide's factors: half a unit of their own, and two for each admittance in ones
 own-error : (s : List ℕ) (k : ℕ) → 500000 * scale + rowWeight s k * (2 * scale) ≡ factorError s k * scale
@@ -128,18 +124,3 @@ module _ (s : List ℕ) (passed : ownRefusal s ≡ 0) (phases : Phases) (frame :
     skipped-c = λ j e. skipped-none s phases cCos cSin j frame e;
     skipped-s = λ j e. skipped-none s phases sCos sSin j frame e;
   }
-
--- ---- the same of every call that nothing refuses: what the entry of place j gained
-module _ (n : ℕ) (c s : List ℤ) (sheet : List ℕ) (phases : Phases) (frame : Frame) (e : oceanRefusal n c s sheet ≡ 0) where
-  gained : (x y d exact : ℤ) → y ≡ x +ℤ d → atMostNineCounts d exact → atMostNineCounts (y -ℤ x) exact
-  gained x y d exact q near =
-      subst (λ (z : ℤ). atMostNineCounts z exact)
-      (sym (ap (λ (z : ℤ). z -ℤ x) q ∙ equal (! 0 ⊕ ! 1 ⊖ ! 0) (! 1) (x ∷ d ∷ []) (omega arith))) near
-
-  pub entries-close-to-exact : EntriesCloseToExact n c s sheet phases frame
-  entries-close-to-exact =
-      let near = close-to-exact sheet (passing n c s sheet e .0) phases frame in
-      record {
-        in-c = λ j h. gained (getD c (indexOf sheet j) (pos 0)) _ _ _ (c-here n c s sheet phases frame e j h) (near .c j h);
-        in-s = λ j h. gained (getD s (indexOf sheet j) (pos 0)) _ _ _ (s-here n c s sheet phases frame e j h) (near .s j h);
-      }

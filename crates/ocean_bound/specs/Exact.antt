@@ -5,11 +5,10 @@ use mathlib.Core.List.{List}
 use mathlib.Core.Path.{_≡_}
 use Prim.Native.Nat.{ℕ, _+_, _*_, _^_, _≤_, _<_}
 use lib.IntN.{ℤ, pos, natAbs, _-ℤ_, _*ℤ_}
-use lib.ListN.{getD}
 use Rattle.arguments.specs.declared.Phases.{Phases}
 use Rattle.choices.specs.declared.Frame.{Frame}
-use Rattle.ocean.specs.Ocean.{dC, dS, oceanTide}
-use Rattle.places.specs.Places.{placeSum, skipped, unlessSkipped, indexOf}
+use Rattle.ocean.specs.Ocean.{dC, dS}
+use Rattle.places.specs.Places.{placeSum, skipped, unlessSkipped}
 use Rattle.series.specs.Exact.{scale, exact-sin, exact-cos}
 use Rattle.sheet.specs.Sheet.{lineCount, tideCount, placeCount, admittance, degree, cCos, sCos, cSin, sSin, coefficient}
 use Rattle.tides.specs.Tides.{linePhase, lineSum}
@@ -42,16 +41,6 @@ pub record CloseToExact (sheet : List ℕ) (phases : Phases) (frame : Frame) : T
   pub s : (j : ℕ) → j < placeCount sheet → atMostNineCounts (dS sheet phases frame j) (exactSum sheet phases frame sCos sSin j)
   pub skipped-c : (j : ℕ) → skipped frame (degree sheet j) ≡ true → (dC sheet phases frame j ≡ pos 0) × (exactSum sheet phases frame cCos cSin j ≡ pos 0)
   pub skipped-s : (j : ℕ) → skipped frame (degree sheet j) ≡ true → (dS sheet phases frame j ≡ pos 0) × (exactSum sheet phases frame sCos sSin j ≡ pos 0)
-
--- the same of a field's entries: each after the call less the one before it
-abbrev pub moved : List ℤ → List ℤ → ℕ → ℤ
-moved before after k = getD after k (pos 0) -ℤ getD before k (pos 0)
-
-pub record EntriesCloseToExact (n : ℕ) (c s : List ℤ) (sheet : List ℕ) (phases : Phases) (frame : Frame) : Type 0 where
-  pub in-c : (j : ℕ) → j < placeCount sheet
-      → atMostNineCounts (moved c (oceanTide n c s sheet phases frame .c) (indexOf sheet j)) (exactSum sheet phases frame cCos cSin j)
-  pub in-s : (j : ℕ) → j < placeCount sheet
-      → atMostNineCounts (moved s (oceanTide n c s sheet phases frame .s) (indexOf sheet j)) (exactSum sheet phases frame sCos sSin j)
 
 -- ---- the bound fitted to a sheet
 -- w, a row's absolute admittances added up, in millionths

@@ -5,7 +5,7 @@ use Prim.Native.Nat.{ℕ}
 use lib.IntN.{ℤ}
 use Rattle.choices.specs.declared.Frame.{Frame}
 use Rattle.sheet.specs.declared.Layout.{Layout}
-use Rattle.sheet.specs.Read.{Passed}
+use Rattle.sheet.specs.Inner.{Passed}
 use Rattle.sheet.specs.Sheet.{tideCount, cCos, sCos, cSin, sSin}
 use Rattle.tides.specs.Inner.{listed, Sized}
 use Rattle.places.specs.declared.Correction.{Correction}

@@ -2,7 +2,7 @@
 ghost use mathlib.Core.Path.{_≡_};
 ghost use Prim.Native.Nat.{_+_, _*_, _^_, _<_};
 ghost use lib.IntN.{natAbs, _+ℤ_, _*ℤ_};
-ghost use Rattle.sheet.specs.Read.{Passed};
+ghost use Rattle.sheet.specs.Inner.{Passed};
 ghost use Rattle.sheet.specs.Sheet.{placeCount};
 ghost use Rattle.places.specs.Places.{skipped, indexOf};
 ghost use Rattle.places.specs.Inner.{WithFactors, Summed, Corrects};

@@ -16,7 +16,7 @@ use Rattle.limits.specs.Limits.{isLineCount, isTideCount, isPlaceCount, isMulti
 use Rattle.sheet.specs.Sheet.{lineCount, tideCount, placeCount, sheetEnd, multiplier, admittance, degree, order, sCos, sSin, coefficient}
 use Rattle.sheet.specs.Accepted.{shaped, lineValid, rowValid, countsValid, sZero, placeValid, precedes, ascending, valid, reached, ownRefusal, sheetRefusal}
 use Rattle.sheet.specs.declared.Layout.{Layout}
-use Rattle.sheet.specs.Read.{Whole, Passed}
+use Rattle.sheet.specs.Inner.{Whole, Passed}
 use Rattle.refusals.proofs.Outcomes.{first-none}
 use Rattle.whole.proofs.Counted.{all-at}
 use Rattle.sheet.proofs.Flat.{all-of}

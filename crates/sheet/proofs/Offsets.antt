@@ -8,7 +8,7 @@ use lib.ListN.{length}
 use Rattle.sheet.specs.declared.Layout.{Layout}
 use Rattle.sheet.specs.Sheet.{lineCount, lineStart, tidesStart, tideCount, placeCount, rowStart, placeStart}
 use Rattle.words.specs.Words.{halfAt}
-use Rattle.sheet.specs.Read.{Laid, Whole}
+use Rattle.sheet.specs.Inner.{Laid, Whole}
 
 -- item k of t items of n numbers each
 item-in : (n k t : ℕ) → k < t → n * k + n ≤ n * t

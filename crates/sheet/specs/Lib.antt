@@ -1,3 +1,3 @@
 pub mod Sheet
 pub mod Accepted
-pub mod Read
+pub mod Inner

@@ -2,6 +2,7 @@
 use mathlib.Core.List.{List}
 use Prim.Native.Nat.{ℕ, _+_, _*_, _^_}
 use lib.IntN.{ℤ}
+use Rattle.arguments.specs.declared.Multipliers.{Multipliers}
 use Rattle.words.specs.Words.{byteAt, halfAt, wordAt, twosComplement}
 
 -- ---- "Three sections, each after its 16-bit count"
@@ -38,6 +39,10 @@ sheetEnd s = placeStart s (placeCount s)
 -- ---- "Lines: six signed bytes": multiplier i of line f
 unfoldable pub multiplier : List ℕ → ℕ → ℕ → ℤ
 multiplier s f i = twosComplement (2 ^ 7) (byteAt s (lineStart f + i))
+
+-- line f's six multipliers, in the arguments' order
+unfoldable pub multipliers : List ℕ → ℕ → Multipliers
+multipliers s f = record { tau = multiplier s f 0; s = multiplier s f 1; h = multiplier s f 2; p = multiplier s f 3; np = multiplier s f 4; ps = multiplier s f 5 }
 
 -- ---- "Tides: a row of one signed 32-bit admittance per line, in millionths": of tide k, at line f
 unfoldable pub admittance : List ℕ → ℕ → ℕ → ℤ

@@ -2,8 +2,8 @@
 ghost use mathlib.Core.Path.{_≡_};
 ghost use Prim.Native.Nat.{_^_, _≤_, _<_};
 ghost use lib.IntN.{natAbs};
-ghost use Rattle.sheet.specs.Sheet.{lineCount, tideCount, placeCount, rowStart, placeStart, admittance, degree, order, coefficient};
-ghost use Rattle.sheet.specs.Read.{multipliers, Laid, Whole};
+ghost use Rattle.sheet.specs.Sheet.{lineCount, tideCount, placeCount, rowStart, placeStart, multipliers, admittance, degree, order, coefficient};
+ghost use Rattle.sheet.specs.Inner.{Laid, Whole};
 use arguments::Multipliers;
 
 // The three counts, where the first row and the first place stand, and where the sheet ends.

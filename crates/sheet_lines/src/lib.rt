@@ -4,7 +4,7 @@ ghost use Prim.Native.Nat.{_≤_, _<_};
 ghost use Rattle.whole.specs.Sum.{weightTo, allTo};
 ghost use Rattle.sheet.specs.Sheet.{lineCount, tideCount, admittance};
 ghost use Rattle.sheet.specs.Accepted.{lineValid, rowValid};
-ghost use Rattle.sheet.specs.Read.{Whole};
+ghost use Rattle.sheet.specs.Inner.{Whole};
 use sheet::Layout;
 
 // Every multiplier of every line, in one pass over their bytes.

@@ -12,7 +12,7 @@ use lib.IntN.{natAbs}
 use Rattle.whole.specs.Sum.{allTo}
 use Rattle.limits.specs.Limits.{isCoefficient}
 use Rattle.words.specs.Words.{wordAt, twosComplement}
-use Rattle.words.proofs.Bits.{below-or}
+use Rattle.whole.proofs.Bits.{below-or}
 use Rattle.words.proofs.Signs.{raised-small}
 use Rattle.sheet.specs.Sheet.{tideCount, placeStart, coefficient}
 use Rattle.sheet.specs.Accepted.{countsValid}

@@ -6,7 +6,7 @@ ghost use lib.ListN.{length};
 ghost use Rattle.whole.specs.Sum.{allTo};
 ghost use Rattle.sheet.specs.Sheet.{tideCount, placeCount};
 ghost use Rattle.sheet.specs.Accepted.{countsValid, sZero, placeValid, ascending};
-ghost use Rattle.sheet.specs.Read.{Whole};
+ghost use Rattle.sheet.specs.Inner.{Whole};
 ghost use Rattle.sheet_places.specs.Inner.{validAt, Joined, afterLast};
 use sheet::Layout;
 

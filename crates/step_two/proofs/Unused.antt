@@ -1,7 +1,7 @@
 -- A line that a Love model has no amplitudes for gives nothing, whatever its wave: so the waves kept of the lines used give the whole sums.
 use borrow.Author.Tests.{ltb-false, leb-false, lt-ltb, le-ltb}
 use mathlib.Core.Bool.{Bool, true, false, cond, _||_}
-use mathlib.Core.List.{[], _∷_}
+use mathlib.Core.List.{List, [], _∷_}
 use mathlib.Core.Path.{_≡_, refl, sym, ap, _∙_}
 use Prim.Native.Nat.{ℕ, zero, suc, _≤_, _<_}
 use native.Mathlib.Omega.{arith}
@@ -13,7 +13,6 @@ use Rattle.bands.specs.declared.Line.{Line}
 use Rattle.bands.specs.Bands.{Coefficient, C20, C21, S21, C22, S22, ofBand, ofLongPeriod, term}
 use Rattle.choices.specs.declared.LoveModel.{LoveModel}
 use Rattle.choices.specs.declared.LoveModel.the-variants.{Elastic, Anelastic}
-use Rattle.hour.specs.declared.Waves.{Waves}
 use Rattle.hour.specs.Inner.{isUsed, kept, Waved}
 use Rattle.lines.specs.Lines.{bandAt, inModel, linePhase, printedLine}
 use Rattle.wave.specs.Wave.{sin, cos}
@@ -61,9 +60,9 @@ module _ (love : LoveModel) (i : ℕ) (k : Coefficient) (c s : ℤ) where
   same-term : term k (printedLine love i) (cond (isUsed love i) c (pos 0)) (cond (isUsed love i) s (pos 0)) ≡ term k (printedLine love i) c s
   same-term = by-use (isUsed love i) refl
 
-pub waved-sum : (phases : Phases) (love : LoveModel) (w : Waves) → Waved phases love w → (k : Coefficient)
-    → sumOf (printedLine love) (kept (w .cosines)) (kept (w .sines)) 49 k ≡ sumOf (printedLine love) (λ i. cos (linePhase phases i)) (λ i. sin (linePhase phases i)) 49 k
+pub waved-sum : (phases : Phases) (love : LoveModel) (C S : List ℤ) → Waved phases love C S → (k : Coefficient)
+    → sumOf (printedLine love) (kept C) (kept S) 49 k ≡ sumOf (printedLine love) (λ i. cos (linePhase phases i)) (λ i. sin (linePhase phases i)) 49 k
 unfolding sumOf
-waved-sum phases love w W k =
-    sum-same (λ i. term k (printedLine love i) (kept (w .cosines) i) (kept (w .sines) i)) (λ i. term k (printedLine love i) (cos (linePhase phases i)) (sin (linePhase phases i))) 49
+waved-sum phases love C S W k =
+    sum-same (λ i. term k (printedLine love i) (kept C i) (kept S i)) (λ i. term k (printedLine love i) (cos (linePhase phases i)) (sin (linePhase phases i))) 49
     (λ i l. rw (W .cosines i l, W .sines i l) (same-term love i k (cos (linePhase phases i)) (sin (linePhase phases i))))

@@ -7,7 +7,6 @@ ghost use Rattle.step_two.specs.Inner.{sumsOf, roundedOf, Bounded};
 use arguments::Phases;
 use bands::Sums;
 use choices::LoveModel;
-use hour::Waves;
 
 // The five corrections, in counts.
 pub struct Corrections {
@@ -19,14 +18,12 @@ pub struct Corrections {
 }
 
 // The five sums of the printed lines over given waves.
-pub fn sums_of(love: LoveModel, waves: Waves) -> Sums
-    ensures { λ r. ⌜ (r ≡ sumsOf (printedLine love) (kept (waves .cosines)) (kept (waves .sines)) 49) × Bounded r ⌝ }
+pub fn sums_of(love: LoveModel, cosines: &[i32; 49], sines: &[i32; 49]) -> Sums
+    ensures { λ r. ⌜ (r ≡ sumsOf (printedLine love) (kept (now (cosines .entry))) (kept (now (sines .entry))) 49) × Bounded r ⌝ }
 {
     let tables = lines::printed_tables();
     let first = tables.first;
     let second = tables.second;
-    let cosines = waves.cosines;
-    let sines = waves.sines;
     let mut sums = Sums {
         c20: 0,
         c21: 0,
@@ -62,5 +59,8 @@ pub fn rounded_of(sums: Sums) -> Corrections
 pub fn corrections_of(phases: Phases, love: LoveModel) -> Corrections
     ensures { λ r. ⌜ r ≡ corrections phases love ⌝ }
 {
-    rounded_of(sums_of(love, hour::waves_of(phases, love)))
+    let mut cosines = [0i32; 49];
+    let mut sines = [0i32; 49];
+    hour::fill_waves(phases, love, &mut cosines, &mut sines);
+    rounded_of(sums_of(love, &cosines, &sines))
 }

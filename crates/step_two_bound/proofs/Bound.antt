@@ -1,20 +1,17 @@
 -- A sum is off by at most two units for each count of the lines' amplitudes, and its nearest by half a count more: for any lines. The printed ones
 -- are a few counts in two to the thirtieth.
-use mathlib.Core.Path.{_≡_, sym, ap, subst, _∙_}
-use mathlib.Core.List.{List, [], _∷_}
+use mathlib.Core.Path.{ap}
+use mathlib.Core.List.{[], _∷_}
 use Prim.Native.Nat.{ℕ, zero, suc, _+_, _*_, _^_, _≤_, _<_}
 use native.Mathlib.Nat.{mul-le-mul-right}
 use native.Mathlib.Omega.{arith}
 use lib.Dec.{lit<}
-use lib.IntN.{ℤ, pos, natAbs, _+ℤ_, _-ℤ_, _*ℤ_}
-use lib.ListN.{getD}
+use lib.IntN.{ℤ, pos, natAbs, _+ℤ_, _*ℤ_}
 use Rattle.arguments.specs.declared.Phases.{Phases}
 use Rattle.bands.specs.declared.Line.{Line}
 use Rattle.bands.specs.Bands.{Coefficient, C20, C21, S21, C22, S22, taken, term}
 use Rattle.bands.proofs.Terms.{taken-size}
 use Rattle.choices.specs.declared.LoveModel.{LoveModel}
-use Rattle.field.specs.Field.{place, fieldRefusal}
-use Rattle.field.proofs.Accepted.{accepted-field, degree-two}
 use Rattle.lines.specs.Lines.{linePhase, printedLine}
 use Rattle.lines.proofs.Table.{printed-small}
 use Rattle.series.specs.Exact.{bottom, factorial, denominator, scale}
@@ -23,9 +20,8 @@ use Rattle.whole.specs.Sum.{weightTo}
 use Rattle.whole.proofs.Ring.{equal, !, #, _⊕_, _⊖_, _⊗_}
 use Rattle.whole.proofs.Running.{weight-size}
 use Rattle.whole.proofs.Within.{within-nearest}
-use Rattle.step_two.specs.StepTwo.{sumOf, correctionOf, correction, corrections, stepTwo}
-use Rattle.step_two.proofs.Entries.{c20-entry, c21-entry, s21-entry, c22-entry, s22-entry, list-c-after, list-s-after}
-use Rattle.step_two_bound.specs.Exact.{partsOfACount, lessThanOneCount, amplitudes, byAmplitudes, LinesCloseToExact, exactSum, CloseToExact, moved, EntriesCloseToExact}
+use Rattle.step_two.specs.StepTwo.{sumOf, correctionOf, correction, corrections}
+use Rattle.step_two_bound.specs.Exact.{partsOfACount, lessThanOneCount, amplitudes, byAmplitudes, LinesCloseToExact, exactSum, CloseToExact}
 
 -- what a coefficient takes of the lines is no more than they have
 taken-weight : (lines : ℕ → Line) (k : Coefficient) (n : ℕ)
@@ -89,28 +85,3 @@ step-two-close phases love = record {
   c22 = printed-close phases love C22;
   s22 = printed-close phases love S22;
 }
-
--- an entry moved by what was added to it
-close-entry : (l m : List ℤ) (k : ℕ) (d x : ℤ) → getD m k (pos 0) ≡ getD l k (pos 0) +ℤ d → lessThanOneCount d x → lessThanOneCount (moved l m k) x
-close-entry l m k d x e h =
-    let back : moved l m k ≡ d = ap (λ (z : ℤ). z -ℤ getD l k (pos 0)) e ∙ equal (! 0 ⊕ ! 1 ⊖ ! 0) (! 1) (getD l k (pos 0) ∷ d ∷ []) (omega arith) in
-    subst (λ (z : ℤ). lessThanOneCount z x) (sym back) h
-
--- the third demand for step two, of the entries of an accepted field
-pub entries-close : (n : ℕ) (c s : List ℤ) (phases : Phases) (love : LoveModel) → fieldRefusal n c s ≡ 0 → EntriesCloseToExact n c s phases love
-unfolding place
-entries-close n c s phases love e =
-    let a = accepted-field n c s e in
-    let long-c = degree-two n c (a .least) (a .c-size) in
-    let long-s = degree-two n s (a .least) (a .s-size) in
-    let d = corrections phases love in
-    let k = step-two-close phases love in
-    let C = list-c-after n c s phases love e in
-    let S = list-s-after n c s phases love e in
-    record {
-      c20 = close-entry c (stepTwo n c s phases love .c) 3 (d .c20) _ (ap (λ (l : List ℤ). getD l 3 (pos 0)) C ∙ c20-entry c d long-c) (k .c20);
-      c21 = close-entry c (stepTwo n c s phases love .c) 4 (d .c21) _ (ap (λ (l : List ℤ). getD l 4 (pos 0)) C ∙ c21-entry c d long-c) (k .c21);
-      s21 = close-entry s (stepTwo n c s phases love .s) 4 (d .s21) _ (ap (λ (l : List ℤ). getD l 4 (pos 0)) S ∙ s21-entry s d long-s) (k .s21);
-      c22 = close-entry c (stepTwo n c s phases love .c) 5 (d .c22) _ (ap (λ (l : List ℤ). getD l 5 (pos 0)) C ∙ c22-entry c d long-c) (k .c22);
-      s22 = close-entry s (stepTwo n c s phases love .s) 5 (d .s22) _ (ap (λ (l : List ℤ). getD l 5 (pos 0)) S ∙ s22-entry s d long-s) (k .s22);
-    }

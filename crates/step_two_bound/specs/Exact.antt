@@ -1,18 +1,15 @@
 -- The third demand for step two: "each second-step solid correction less than one count" from its exact sum, which is "the same sum with no
 -- rounding anywhere".
-use mathlib.Core.List.{List}
 use Prim.Native.Nat.{ℕ, _+_, _*_, _^_, _≤_, _<_}
 use lib.IntN.{ℤ, pos, natAbs, _-ℤ_, _*ℤ_}
-use lib.ListN.{getD}
 use Rattle.arguments.specs.declared.Phases.{Phases}
 use Rattle.bands.specs.declared.Line.{Line}
 use Rattle.bands.specs.Bands.{Coefficient, C20, C21, S21, C22, S22}
 use Rattle.choices.specs.declared.LoveModel.{LoveModel}
-use Rattle.field.specs.Field.{place}
 use Rattle.series.specs.Exact.{scale, exact-sin, exact-cos}
 use Rattle.wave.specs.Wave.{sin, cos}
 use Rattle.whole.specs.Sum.{weightTo}
-use Rattle.step_two.specs.StepTwo.{sumOf, correctionOf, printedSum, corrections, stepTwo}
+use Rattle.step_two.specs.StepTwo.{sumOf, correctionOf, printedSum, corrections}
 
 -- an exact sum has so many parts to a count: its sines are in units of 2^-30, over `scale`
 unfoldable pub partsOfACount : ℕ
@@ -46,14 +43,3 @@ pub record CloseToExact (phases : Phases) (love : LoveModel) : Type 0 where
   pub s21 : lessThanOneCount (corrections phases love .s21) (exactSum phases love S21)
   pub c22 : lessThanOneCount (corrections phases love .c22) (exactSum phases love C22)
   pub s22 : lessThanOneCount (corrections phases love .s22) (exactSum phases love S22)
-
--- the same of a field's entries: each after the call less the one before it
-abbrev pub moved : List ℤ → List ℤ → ℕ → ℤ
-moved before after k = getD after k (pos 0) -ℤ getD before k (pos 0)
-
-pub record EntriesCloseToExact (n : ℕ) (c s : List ℤ) (phases : Phases) (love : LoveModel) : Type 0 where
-  pub c20 : lessThanOneCount (moved c (stepTwo n c s phases love .c) (place 2 0)) (exactSum phases love C20)
-  pub c21 : lessThanOneCount (moved c (stepTwo n c s phases love .c) (place 2 1)) (exactSum phases love C21)
-  pub s21 : lessThanOneCount (moved s (stepTwo n c s phases love .s) (place 2 1)) (exactSum phases love S21)
-  pub c22 : lessThanOneCount (moved c (stepTwo n c s phases love .c) (place 2 2)) (exactSum phases love C22)
-  pub s22 : lessThanOneCount (moved s (stepTwo n c s phases love .s) (place 2 2)) (exactSum phases love S22)

@@ -6,7 +6,7 @@ use lib.IntN.{ℤ, pos, natAbs, _+ℤ_, _-ℤ_}
 use lib.ListN.{getD}
 use Rattle.arguments.specs.declared.Phases.{Phases}
 use Rattle.sheet.specs.declared.Layout.{Layout}
-use Rattle.sheet.specs.Read.{Passed}
+use Rattle.sheet.specs.Inner.{Passed}
 use Rattle.sheet.specs.Sheet.{lineCount, tideCount}
 use Rattle.wave.specs.Wave.{sin, cos}
 use Rattle.whole.specs.Sum.{weightTo}

@@ -4,8 +4,7 @@ use Prim.Native.Nat.{ℕ, _^_}
 use lib.IntN.{ℤ, _*ℤ_}
 use Rattle.arguments.specs.declared.Phases.{Phases}
 use Rattle.arguments.specs.Phase.{phase}
-use Rattle.sheet.specs.Sheet.{lineCount, admittance}
-use Rattle.sheet.specs.Read.{multipliers}
+use Rattle.sheet.specs.Sheet.{lineCount, multipliers, admittance}
 use Rattle.wave.specs.Wave.{sin, cos}
 use Rattle.whole.specs.Nearest.{nearest}
 use Rattle.whole.specs.Sum.{sumTo}

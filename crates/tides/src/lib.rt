@@ -4,7 +4,7 @@ ghost use mathlib.Core.Path.{_≡_};
 ghost use Prim.Native.Nat.{_+_, _*_, _^_, _≤_, _<_};
 ghost use lib.IntN.{pos, natAbs, _+ℤ_, _-ℤ_};
 ghost use lib.ListN.{length};
-ghost use Rattle.sheet.specs.Read.{Passed};
+ghost use Rattle.sheet.specs.Inner.{Passed};
 ghost use Rattle.sheet.specs.Sheet.{lineCount, tideCount};
 ghost use Rattle.tides.specs.Inner.{Waved, Bounded, total, WithWaves, Summed, Rowed, Factored};
 use arguments::Phases;
@@ -76,6 +76,14 @@ fn lowered_sum(products: u64, row: u64, waves: u64, lines: usize) -> i64
     more as i64 - less as i64
 }
 
+// A running sum with one line more, admittance and wave raised.
+fn plus_line(sum: u64, a: u32, w: u32) -> u64
+    requires { ⌜ sum + a * w < 2 ^ 64 ⌝ }
+    ensures { λ r. ⌜ r ≡ sum + a * w ⌝ }
+{
+    sum + a as u64 * w as u64
+}
+
 // Both sums of tide k in one pass; the totals are those of the raised waves.
 fn row_sums(
     sheet: &[u8],
@@ -95,10 +103,10 @@ fn row_sums(
     let mut row: u64 = 0;
     let mut f: usize = 0;
     while f < lines {
-        let a = raised(sheet::admittance_at(sheet, l, k, f), ADMITTANCE) as u64;
-        x += a * cosines[f] as u64;
-        y += a * sines[f] as u64;
-        row += a;
+        let a = raised(sheet::admittance_at(sheet, l, k, f), ADMITTANCE);
+        x = plus_line(x, a, cosines[f]);
+        y = plus_line(y, a, sines[f]);
+        row += a as u64;
         f += 1;
     }
     RowSums {

@@ -110,11 +110,3 @@ pub fn sine_of(phase: u32) -> i64
     let wave = wave_of(phase);
     wave.sine
 }
-
-// The cosine of a phase.
-pub fn cosine_of(phase: u32) -> i64
-    ensures { λ r. ⌜ r ≡ cos phase ⌝ }
-{
-    let wave = wave_of(phase);
-    wave.cosine
-}

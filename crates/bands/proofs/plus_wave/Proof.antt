@@ -52,15 +52,15 @@ add-result c =
     rw (toZ-ofZ (c .fits .a), toZ-ofZ (c .fits .cosine), toZ-ofZ (c .fits .b), toZ-ofZ (c .fits .sine), toZ-ofZ (first-fits c), toZ-ofZ (second-fits c))
     (both-fit c)
 
-add-result-2 : tie.Need-add-result-2
-add-result-2 c =
-    rw (toZ-ofZ (c .fits .sum), toZ-ofZ (c .fits .a), toZ-ofZ (c .fits .cosine), toZ-ofZ (c .fits .b), toZ-ofZ (c .fits .sine), toZ-ofZ (first-fits c), toZ-ofZ (second-fits c), toZ-ofZ (both-fit c))
-    (all-fit c)
-
 returns : tie.Need-returns
 returns c =
     rw (toZ-ofZ (c .fits .sum), toZ-ofZ (c .fits .a), toZ-ofZ (c .fits .cosine), toZ-ofZ (c .fits .b), toZ-ofZ (c .fits .sine), toZ-ofZ (first-fits c), toZ-ofZ (second-fits c), toZ-ofZ (both-fit c), toZ-ofZ (all-fit c))
     refl
+
+add-result-2 : tie.Need-add-result-2
+add-result-2 c =
+    rw (toZ-ofZ (c .fits .sum), toZ-ofZ (c .fits .a), toZ-ofZ (c .fits .cosine), toZ-ofZ (c .fits .b), toZ-ofZ (c .fits .sine), toZ-ofZ (first-fits c), toZ-ofZ (second-fits c), toZ-ofZ (both-fit c))
+    (all-fit c)
 
 pub plus-wave-spec : {M : Type 1} → statement M
 plus-wave-spec = tie.close (tie.spec mul-result mul-result-2 add-result add-result-2 returns)

@@ -1,26 +1,15 @@
--- A frame that is named goes on with the phases to the call; one that is not is answered at once.
+-- A frame that is named goes on to the call; a number that names none is answered at once.
 use borrow.Author.Needs.{needs}
-use mathlib.Core.Path.{refl, sym, ap, _∙_}
-use Rattle.boundary.specs.Choices.{tellsFrame}
-use Rattle.boundary.specs.Calls.{oceanGiven}
+use mathlib.Core.Path.{refl, sym, _∙_}
+use Rattle.boundary.proofs.Given.{ocean-named, ocean-missing}
 use Rattle.boundary.proofs.surfgimlet_ocean_tide.Statement.{statement}
 use Rattle.boundary.proofs.surfgimlet_ocean_tide.Tie as tie
 
+is-frame-requires : tie.Need-is-frame-requires
+is-frame-requires c κs = search needs
+
 frame-of-requires : tie.Need-frame-of-requires
 frame-of-requires c κs = search needs
-
-enum-known-f : tie.Need-enum-known-f
-enum-known-f c = search needs
-
-enum-told : tie.Need-enum-told
-enum-told c = search needs
-
-returns : tie.Need-returns
-unfolding oceanGiven
-returns c = rw (sym (c .before .before .frame-of .ensures) ∙ ap tellsFrame (c .enum-told .given .1)) (record { answer = refl; list-c = refl; list-s = refl })
-
-phases-of-requires : tie.Need-phases-of-requires
-phases-of-requires c κs = search needs
 
 ocean-tide-requires : tie.Need-ocean-tide-requires
 ocean-tide-requires c κs = search needs
@@ -34,24 +23,24 @@ same-length c = search needs
 same-length-2 : tie.Need-same-length-2
 same-length-2 c = search needs
 
+returns : tie.Need-returns
+returns c =
+    let a = c .before .before .before in
+    let f = a .before .before .before in
+    rw (ocean-named _ _ _ _ _ _ (f .frame-of .result) (sym (f .before .before .is-frame .ensures) ∙ f .before .if1 .taken) (f .frame-of .ensures), c .answer-number .ensures) (a .ocean-tide .ensures)
+
 returns-2 : tie.Need-returns-2
-unfolding oceanGiven
-returns-2 c =
-    let f = c .before .before .before .before .before .before .before .before in
-    rw (sym (f .before .before .frame-of .ensures) ∙ ap tellsFrame (f .f .given .1), c .answer-number .ensures)
-    (rw (c .before .before .before .before .phases-of .ensures) at (c .before .before .before .ocean-tide .ensures))
+returns-2 c = rw (ocean-missing _ _ _ _ _ _ (sym (c .before .is-frame .ensures) ∙ c .if1 .left)) (record { answer = refl; list-c = refl; list-s = refl })
 
 pub surfgimlet-ocean-tide-spec : {M : Type 1} → statement M
 surfgimlet-ocean-tide-spec =
     tie.close
     (tie.spec
+    is-frame-requires
     frame-of-requires
-    enum-known-f
-    enum-told
-    returns
-    phases-of-requires
     ocean-tide-requires
     answer-number-requires
     same-length
     same-length-2
+    returns
     returns-2)

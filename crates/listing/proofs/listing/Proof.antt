@@ -2,18 +2,17 @@
 use borrow.Author.Needs.{needs}
 use borrow.Author.Tests.{eq-eqb}
 use mathlib.Core.Path.{sym, ap}
-use Rattle.listing.specs.Text.{ascii}
-use Rattle.listing.specs.Listing.{lines, listingOf}
-use Rattle.listing.proofs.Cases.{refused-listed}
-use Rattle.listing.proofs.Lengths.{listed}
+use Rattle.text.specs.Text.{ascii}
+use Rattle.listing.specs.Listing.{modelsText, listingOf}
+use Rattle.listing.proofs.Lengths.{refused-listed, listed}
 use Rattle.listing.proofs.listing.Statement.{statement}
 use Rattle.listing.proofs.listing.Tie as tie
 
 phases-of-requires : tie.Need-phases-of-requires
 phases-of-requires c κs = search needs
 
-put-lines-requires : tie.Need-put-lines-requires
-put-lines-requires c κs = search needs
+put-models-requires : tie.Need-put-models-requires
+put-models-requires c κs = search needs
 
 slice-aggregate-put-word : tie.Need-slice-aggregate-put-word
 slice-aggregate-put-word c = search needs
@@ -25,7 +24,7 @@ returns : tie.Need-returns
 unfolding listingOf
 returns c =
     let s = c .before .before .before .before .before in
-    listed (s .args .input .now) _ _ (lines (c .before .phases-of .result)) _ (rw (eq-eqb _ _ (c .before .before .before .if1 .taken)) (ap lines (sym (c .before .phases-of .ensures)))) (search needs) (c .put-lines .ensures)
+    listed (s .args .input .now) _ _ (modelsText (c .before .phases-of .result)) _ (rw (eq-eqb _ _ (c .before .before .before .if1 .taken)) (ap modelsText (sym (c .before .phases-of .ensures)))) (search needs) (c .put-models .ensures)
 
 returns-2 : tie.Need-returns-2
 unfolding ascii
@@ -38,7 +37,7 @@ listing-spec =
     tie.close
     (tie.spec
     phases-of-requires
-    put-lines-requires
+    put-models-requires
     slice-aggregate-put-word
     put-word-requires
     returns

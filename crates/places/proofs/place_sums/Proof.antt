@@ -14,7 +14,7 @@ use Rattle.whole.proofs.Machine.{back}
 use Rattle.whole.proofs.Parts.{fits-abs}
 use Rattle.whole.proofs.Sums.{sum-next}
 use Rattle.sheet.specs.Sheet.{tideCount, placeCount, coefficient}
-use Rattle.sheet.specs.Read.{Whole}
+use Rattle.sheet.specs.Inner.{Whole}
 use Rattle.sheet.proofs.Acceptance.{Accepted, accepted, whole-of}
 use Rattle.sheet.proofs.Signs.{told}
 use Rattle.tides.specs.Inner.{listed}

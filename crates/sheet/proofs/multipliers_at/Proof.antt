@@ -5,8 +5,7 @@ use native.Mathlib.Nat.{add-zero}
 use borrow.Author.Needs.{needs}
 use mir.Syntax.{w32}
 use Rattle.words.specs.Words.{byteAt, twosComplement}
-use Rattle.sheet.specs.Read.{multipliers}
-use Rattle.sheet.specs.Sheet.{multiplier}
+use Rattle.sheet.specs.Sheet.{multiplier, multipliers}
 use Rattle.sheet.proofs.Signs.{told}
 use Rattle.sheet.proofs.multipliers_at.Statement.{statement}
 use Rattle.sheet.proofs.multipliers_at.Tie as tie

@@ -1,6 +1,8 @@
 -- The Sun is looked at only where the Moon was seen, and the corrections follow only where both were.
 use borrow.Author.Needs.{needs}
-use Rattle.step_one.specs.StepOne.{corrections}
+use mathlib.Core.Path.{sym, ap, _∙_}
+use Rattle.bodies.specs.Bodies.{tells}
+use Rattle.step_one.proofs.Order.{moon-refused, sun-refused, both-seen}
 use Rattle.step_one.proofs.corrections_of.Statement.{statement}
 use Rattle.step_one.proofs.corrections_of.Tie as tie
 
@@ -35,25 +37,29 @@ measure-requires : tie.Need-measure-requires
 measure-requires c κs = search needs
 
 returns : tie.Need-returns
-unfolding corrections
-returns c = rw (← c .before .before .before .before .see .ensures, c .before .before .moon-seen .given .1) (c .refuse .ensures)
+returns c =
+    let a = c .before .before .before .before in
+    moon-refused (a .before .args .moon) (a .before .args .sun) (a .before .args .love) _ _
+    (sym (a .see .ensures) ∙ ap tells (c .before .before .moon-seen .given .1)) (c .refuse .ensures)
 
 returns-2 : tie.Need-returns-2
-unfolding corrections
 returns-2 c =
     let m = c .before .before .before .before in
     let s = m .before .before in
-    rw (← s .before .before .see .ensures, s .moon-seen2 .given .1, ← m .see2 .ensures, c .before .before .sun-seen .given .1)
-    (c .refuse2 .ensures)
+    let a = s .before .before in
+    sun-refused (a .before .args .moon) (a .before .args .sun) (a .before .args .love) _ _
+    (sym (a .see .ensures) ∙ ap tells (s .moon-seen2 .given .1)) _
+    (sym (m .see2 .ensures) ∙ ap tells (c .before .before .sun-seen .given .1)) (c .refuse2 .ensures)
 
 returns-3 : tie.Need-returns-3
-unfolding corrections
 returns-3 c =
-    let a = c .before in
-    let m = a .before .before .before .before in
+    let f = c .before in
+    let m = f .before .before .before .before in
     let s = m .before .before in
-    rw (← s .before .before .see .ensures, s .moon-seen2 .given .1, ← m .see2 .ensures, a .before .before .sun-seen2 .given .1, ← a .floats-of .ensures)
-    (c .measure .ensures)
+    let a = s .before .before in
+    both-seen (a .before .args .moon) (a .before .args .sun) (a .before .args .love) _ _
+    (sym (a .see .ensures) ∙ ap tells (s .moon-seen2 .given .1)) _
+    (sym (m .see2 .ensures) ∙ ap tells (f .before .before .sun-seen2 .given .1)) (f .floats-of .result) (f .floats-of .ensures) (c .measure .ensures)
 
 pub corrections-of-spec : {M : Type 1} → statement M
 corrections-of-spec =

@@ -20,10 +20,12 @@ rounded-of-requires c κs = c .sums-of .ensures .1
 returns : tie.Need-returns
 unfolding corrections correction correctionOf roundedOf sumsOf
 returns c =
-    let a = c .before .before .before .args in
-    let w = c .before .before .waves-of in
-    let same = waved-sum (a .phases) (a .love) (w .result) (w .ensures) in
-    let n : (k : Coefficient) → nearest (sumOf (printedLine (a .love)) (kept (w .result .cosines)) (kept (w .result .sines)) 49 k) (2 ^ 30) ≡ nearest (sumOf (printedLine (a .love)) (λ i. cos (linePhase (a .phases) i)) (λ i. sin (linePhase (a .phases) i)) 49 k) (2 ^ 30)
+    let a = c .before .before .before .before .before .before .before .args in
+    let w = c .before .before .before .before .fill-waves in
+    let C = w .last .1 .1 .0 in
+    let S = w .last .1 .1 .1 .0 in
+    let same = waved-sum (a .phases) (a .love) C S (w .ensures) in
+    let n : (k : Coefficient) → nearest (sumOf (printedLine (a .love)) (kept C) (kept S) 49 k) (2 ^ 30) ≡ nearest (sumOf (printedLine (a .love)) (λ i. cos (linePhase (a .phases) i)) (λ i. sin (linePhase (a .phases) i)) 49 k) (2 ^ 30)
     = λ k. ap (λ (z : ℤ). nearest z (2 ^ 30)) (same k) in
     c .rounded-of .ensures
     ∙ ap roundedOf (c .before .sums-of .ensures .0)

@@ -15,13 +15,13 @@ use Rattle.step_two.proofs.sums_of.Statement.{statement}
 use Rattle.step_two.proofs.sums_of.Tie as tie
 
 abbrev Inv-loop : tie.InvT-loop
-Inv-loop love first second cosines sines sums₀ i₀ sums i =
+Inv-loop love cosines sines first second sums₀ i₀ sums i =
     (i ≤ 49)
     × (sums ≡ sumsOf (printedLine love) (kept cosines) (kept sines) i)
     × ((k : Coefficient) → natAbs (sumOf (printedLine love) (kept cosines) (kept sines) i k) ≤ i * 2 ^ 51)
 
 abbrev μ-loop : tie.MeasureT-loop
-μ-loop love first second cosines sines sums₀ i₀ sums i = 49 - i
+μ-loop love cosines sines first second sums₀ i₀ sums i = 49 - i
 
 loop-holds : tie.Need-loop-holds Inv-loop μ-loop
 unfolding sumsOf sumOf sumTo
@@ -29,7 +29,7 @@ loop-holds c = (omega arith, refl, λ k. omega arith)
 
 printed-line-requires : tie.Need-printed-line-requires Inv-loop μ-loop
 printed-line-requires c κs =
-    let e = c .before .before .before .before .before .before .before .before .printed-tables .ensures in
+    let e = c .before .before .before .before .before .before .printed-tables .ensures in
     (c .before .before .loop-test .taken, (e .1 .0, e .1 .1))
 
 -- a turn, once the line and its waves are read
@@ -38,16 +38,16 @@ module _ (c : tie.After-with-line-arg2 Inv-loop μ-loop) where
   head = c .before .before .before .before .before .before
 
   abbrev start : tie.Start Inv-loop μ-loop
-  start = head .before .before .before .before .before .before
+  start = head .before .before .before .before
 
   abbrev i : ℕ
   i = head .loop .i
 
   abbrev C : ℕ → ℤ
-  C = kept (start .args .waves .cosines)
+  C = kept (start .args .cosines .now)
 
   abbrev S : ℕ → ℤ
-  S = kept (start .args .waves .sines)
+  S = kept (start .args .sines .now)
 
   cosine-small : natAbs (C i) ≤ 2 ^ 31
   cosine-small = wave-small (C i) (c .before .with-line-arg .given)
@@ -57,8 +57,8 @@ module _ (c : tie.After-with-line-arg2 Inv-loop μ-loop) where
 
 cast-with-line : tie.Need-cast-with-line Inv-loop μ-loop
 cast-with-line c =
-    let s = c .before .before .before .before .before .before .before .before .before .before .before in
-    wave-fits (kept (s .args .waves .cosines) (c .before .before .before .before .before .loop .i)) (c .with-line-arg .given)
+    let s = c .before .before .before .before .before .before .before .before .before in
+    wave-fits (kept (s .args .cosines .now) (c .before .before .before .before .before .loop .i)) (c .with-line-arg .given)
 
 cast-with-line-2 : tie.Need-cast-with-line-2 Inv-loop μ-loop
 cast-with-line-2 c = wave-fits (S c (i c)) (c .with-line-arg2 .given)
@@ -83,10 +83,10 @@ loop-again c =
 returns : tie.Need-returns Inv-loop μ-loop
 returns c =
     let l = c .before .loop in
-    let a = c .before .before .before .before .before .before .before .args in
+    let a = c .before .before .before .before .before .args in
     let e : l .i ≡ 49 = omega arith in
-    let W = sumsOf (printedLine (a .love)) (kept (a .waves .cosines)) (kept (a .waves .sines)) in
-    (l .inv .1 ∙ ap W e, bounded (a .love) (kept (a .waves .cosines)) (kept (a .waves .sines)) (l .i) (l .inv .0) (l .inv .1) (l .inv .2))
+    let W = sumsOf (printedLine (a .love)) (kept (a .cosines .now)) (kept (a .sines .now)) in
+    (l .inv .1 ∙ ap W e, bounded (a .love) (kept (a .cosines .now)) (kept (a .sines .now)) (l .i) (l .inv .0) (l .inv .1) (l .inv .2))
 
 pub sums-of-spec : {M : Type 1} → statement M
 sums-of-spec =

@@ -9,7 +9,7 @@ use mir.Syntax.{w64}
 use mir.Val.{toZ, ofZ}
 use Rattle.arguments.specs.declared.Multipliers.{Multipliers}
 use Rattle.arguments.specs.Phase.{phase}
-use Rattle.sheet.specs.Read.{Whole}
+use Rattle.sheet.specs.Inner.{Whole}
 use Rattle.sheet.specs.Sheet.{lineCount}
 use Rattle.sheet.proofs.Acceptance.{accepted}
 use Rattle.wave.specs.Wave.{sin, cos}

@@ -103,49 +103,38 @@ admittance-at-requires c κs = let s = c .before .before .before in (whole-of (s
 raised-requires : tie.Need-raised-requires Inv-loop μ-loop
 raised-requires c κs = rw (a-read c) (omega (arith, a-small c), omega arith)
 
-mul-x : tie.Need-mul-x Inv-loop μ-loop
-mul-x c = omega (arith, lines-most (start (c .before)))
+mul-plus-line : tie.Need-mul-plus-line Inv-loop μ-loop
+mul-plus-line c = omega (arith, lines-most (start (c .before)))
 
-element-copy-out-x : tie.Need-element-copy-out-x Inv-loop μ-loop
-element-copy-out-x c = omega (arith, lines-most (start (c .before)))
+element-copy-out-plus-line : tie.Need-element-copy-out-plus-line Inv-loop μ-loop
+element-copy-out-plus-line c = omega (arith, lines-most (start (c .before)))
 
-cast-x : tie.Need-cast-x Inv-loop μ-loop
-cast-x c = omega (arith, cosine-small (c .before))
+plus-line-requires : tie.Need-plus-line-requires Inv-loop μ-loop
+plus-line-requires c κs = omega (arith, x-small (c .before), lines-most (start (c .before .before)))
 
-mul-x-2 : tie.Need-mul-x-2 Inv-loop μ-loop
-mul-x-2 c = omega (arith, x-small (c .before))
+mul-plus-line-2 : tie.Need-mul-plus-line-2 Inv-loop μ-loop
+mul-plus-line-2 c = omega (arith, lines-most (start (c .before .before .before)))
 
-add-x : tie.Need-add-x Inv-loop μ-loop
-add-x c = omega (arith, x-small (c .before), lines-most (start (c .before .before)))
+element-copy-out-plus-line-2 : tie.Need-element-copy-out-plus-line-2 Inv-loop μ-loop
+element-copy-out-plus-line-2 c = omega (arith, lines-most (start (c .before .before .before)))
 
-mul-y : tie.Need-mul-y Inv-loop μ-loop
-mul-y c = omega (arith, lines-most (start (c .before .before)))
-
-element-copy-out-y : tie.Need-element-copy-out-y Inv-loop μ-loop
-element-copy-out-y c = omega (arith, lines-most (start (c .before .before)))
-
-cast-y : tie.Need-cast-y Inv-loop μ-loop
-cast-y c = omega (arith, sine-small (c .before .before))
-
-mul-y-2 : tie.Need-mul-y-2 Inv-loop μ-loop
-mul-y-2 c = omega (arith, y-small (c .before .before))
-
-add-y : tie.Need-add-y Inv-loop μ-loop
-add-y c = omega (arith, y-small (c .before .before), lines-most (start (c .before .before .before)))
+plus-line-requires-2 : tie.Need-plus-line-requires-2 Inv-loop μ-loop
+plus-line-requires-2 c κs = omega (arith, y-small (c .before .before .before), lines-most (start (c .before .before .before .before)))
 
 add-row : tie.Need-add-row Inv-loop μ-loop
-add-row c = omega (arith, v-small (c .before .before), lines-most (start (c .before .before .before)))
+add-row c = omega (arith, v-small (c .before .before .before .before), lines-most (start (c .before .before .before .before .before)))
 
 loop-again : tie.Need-loop-again Inv-loop μ-loop
 loop-again c =
-    let b = c .before .before in
-    let l = turn (read b) .loop in (
+    let b = c .before .before .before .before in
+    let l = turn (read b) .loop in
+    let termOf : List ℕ → ℕ → ℕ = λ waves v. v * getD waves (l .f) 0 in (
       omega arith,
-      weight-more _ (l .f) (l .inv .1) (ap (λ (v : ℕ). v * getD (start (read b) .args .cosines .now) (l .f) 0) (v-is b)),
-      weight-more _ (l .f) (l .inv .2) (ap (λ (v : ℕ). v * getD (start (read b) .args .sines .now) (l .f) 0) (v-is b)),
+      c .before .before .plus-line .ensures ∙ weight-more _ (l .f) (l .inv .1) (ap (termOf (start (read b) .args .cosines .now)) (v-is b)),
+      c .plus-line2 .ensures ∙ weight-more _ (l .f) (l .inv .2) (ap (termOf (start (read b) .args .sines .now)) (v-is b)),
       weight-more _ (l .f) (l .inv .3) (v-is b),
-      omega (arith, x-small b),
-      omega (arith, y-small b),
+      omega (arith, x-small b, c .before .before .plus-line .ensures),
+      omega (arith, y-small b, c .plus-line2 .ensures),
       omega (arith, v-small b),
     )
 
@@ -188,6 +177,6 @@ returns c =
 pub row-sums-spec : {M : Type 1} → statement M
 row-sums-spec =
     tie.close
-    (tie.spec Inv-loop μ-loop loop-holds admittance-at-requires raised-requires (λ c. search needs)
-    mul-x element-copy-out-x cast-x mul-x-2 add-x mul-y element-copy-out-y cast-y mul-y-2 add-y add-row
-    (λ c. search needs) (λ c. search needs) loop-again lowered-sum-requires lowered-sum-requires-2 returns)
+    (tie.spec Inv-loop μ-loop loop-holds admittance-at-requires raised-requires
+    mul-plus-line element-copy-out-plus-line plus-line-requires mul-plus-line-2 element-copy-out-plus-line-2 plus-line-requires-2
+    (λ c. search needs) add-row (λ c. search needs) (λ c. search needs) loop-again lowered-sum-requires lowered-sum-requires-2 returns)

@@ -1,0 +1,62 @@
+-- Where every number given names a case, a call is the unit's own on those cases; else it is 100, and nothing has changed.
+use mathlib.Core.Bool.{true, false, _&&_}
+use mathlib.Core.List.{List}
+use mathlib.Core.Path.{_≡_, ap}
+use Prim.Native.Nat.{ℕ}
+use lib.IntN.{ℤ}
+use Rattle.arguments.specs.declared.Phases.{Phases}
+use Rattle.bodies.specs.declared.Body.{Body}
+use Rattle.choices.specs.declared.Frame.{Frame}
+use Rattle.choices.specs.declared.LoveModel.{LoveModel}
+use Rattle.choices.specs.declared.PermanentSystem.{PermanentSystem}
+use Rattle.crossing.specs.declared.GivenBody.{GivenBody}
+use Rattle.crossing.specs.Choices.{loveModel, frameOf, permanentSystem, bodyOf}
+use Rattle.crossing.specs.Inner.{names, Converts}
+use Rattle.crossing.proofs.Choices.{hundred, one-named, one-missing, three-named, three-missing}
+use Rattle.permanent.specs.Systems.{movedC20}
+use Rattle.refusals.specs.Outcome.{Outcome}
+use Rattle.refusals.specs.Told.Told.{accepted, refused}
+use Rattle.surfgimlet.specs.Calls.{stepOne, stepTwo, oceanTide}
+use Rattle.boundary.specs.Calls.{outcomeOf, stepOneGiven, stepTwoGiven, oceanGiven, moveGiven}
+
+module _ (n : ℕ) (c s : List ℤ) where
+  abbrev pub kept : Outcome
+  kept = record { number = 100; c = c; s = s }
+
+  module _ (moon sun : GivenBody) (love : ℕ) where
+    pub step-one-named : (m b : Body) (k : LoveModel) → (names (loveModel love) && names (bodyOf moon) && names (bodyOf sun)) ≡ true → Converts (loveModel love) k → Converts (bodyOf moon) m
+        → Converts (bodyOf sun) b → stepOneGiven n c s moon sun love ≡ stepOne n c s m b k
+    unfolding stepOneGiven
+    step-one-named m b k e h i j = ap (outcomeOf c s) (three-named (loveModel love) (bodyOf moon) (bodyOf sun) (λ k m b. accepted (stepOne n c s m b k)) k m b e h i j)
+
+    pub step-one-missing : (names (loveModel love) && names (bodyOf moon) && names (bodyOf sun)) ≡ false → stepOneGiven n c s moon sun love ≡ kept
+    unfolding stepOneGiven
+    step-one-missing e =
+        ap (outcomeOf c s) (three-missing (loveModel love) (bodyOf moon) (bodyOf sun) (λ k m b. accepted (stepOne n c s m b k)) (hundred _ love) (hundred _ (moon .kind)) (hundred _ (sun .kind)) e)
+
+  module _ (phases : Phases) where
+    pub step-two-named : (love : ℕ) (k : LoveModel) → names (loveModel love) ≡ true → Converts (loveModel love) k → stepTwoGiven n c s phases love ≡ stepTwo n c s phases k
+    unfolding stepTwoGiven
+    step-two-named love k e h = ap (outcomeOf c s) (one-named (loveModel love) (λ k. accepted (stepTwo n c s phases k)) k e h)
+
+    pub step-two-missing : (love : ℕ) → names (loveModel love) ≡ false → stepTwoGiven n c s phases love ≡ kept
+    unfolding stepTwoGiven
+    step-two-missing love e = ap (outcomeOf c s) (one-missing (loveModel love) (λ k. accepted (stepTwo n c s phases k)) (hundred _ love) e)
+
+    pub ocean-named : (sheet : List ℕ) (frame : ℕ) (f : Frame) → names (frameOf frame) ≡ true → Converts (frameOf frame) f → oceanGiven n c s sheet phases frame ≡ oceanTide n c s sheet phases f
+    unfolding oceanGiven
+    ocean-named sheet frame f e h = ap (outcomeOf c s) (one-named (frameOf frame) (λ f. accepted (oceanTide n c s sheet phases f)) f e h)
+
+    pub ocean-missing : (sheet : List ℕ) (frame : ℕ) → names (frameOf frame) ≡ false → oceanGiven n c s sheet phases frame ≡ kept
+    unfolding oceanGiven
+    ocean-missing sheet frame e = ap (outcomeOf c s) (one-missing (frameOf frame) (λ f. accepted (oceanTide n c s sheet phases f)) (hundred _ frame) e)
+
+module _ (c20 : ℤ) (from to love : ℕ) where
+  pub move-named : (f t : PermanentSystem) (k : LoveModel) → (names (permanentSystem from) && names (permanentSystem to) && names (loveModel love)) ≡ true → Converts (permanentSystem from) f
+      → Converts (permanentSystem to) t → Converts (loveModel love) k → moveGiven c20 from to love ≡ movedC20 c20 f t k
+  unfolding moveGiven
+  move-named f t k e h i j = three-named (permanentSystem from) (permanentSystem to) (loveModel love) (movedC20 c20) f t k e h i j
+
+  pub move-missing : (names (permanentSystem from) && names (permanentSystem to) && names (loveModel love)) ≡ false → moveGiven c20 from to love ≡ refused 100
+  unfolding moveGiven
+  move-missing e = three-missing (permanentSystem from) (permanentSystem to) (loveModel love) (movedC20 c20) (hundred _ from) (hundred _ to) (hundred _ love) e

@@ -1,0 +1,53 @@
+-- The three demands hold.
+use mathlib.Core.List.{List}
+use Prim.Native.Nat.{ℕ}
+use lib.IntN.{ℤ}
+use Rattle.doodson.proofs.RoundTrip.{number-again, multipliers-again}
+use Rattle.field.specs.Field.{place}
+use Rattle.permanent.proofs.RoundTrip.{there-and-back}
+use Rattle.refusals.specs.Outcome.{unlessRefused}
+use Rattle.refusals.proofs.Outcomes.{outcome-number, refused-untouched}
+use Rattle.surfgimlet.specs.Calls.{stepOne, stepTwo, oceanTide}
+use Rattle.demands.specs.Demands.{Refuses, First, Second, Third, Demands}
+use Rattle.demands.proofs.StepOne.{ten-places, others-kept, order-zero-kept}
+use Rattle.demands.proofs.StepTwo.{entries}
+use Rattle.demands.proofs.Ocean.{c-here, s-here, c-elsewhere, s-elsewhere, s-zonal}
+use Rattle.demands.proofs.Close as close
+
+refuses : (number : ℕ) (c s c′ s′ : List ℤ) → Refuses (unlessRefused number c s c′ s′) number c s
+refuses number c s c′ s′ = record {
+  answered = outcome-number number c s c′ s′;
+  kept-c = λ h. refused-untouched number c s c′ s′ h .0;
+  kept-s = λ h. refused-untouched number c s c′ s′ h .1;
+}
+
+pub first : First
+unfolding stepOne stepTwo oceanTide
+first = record {
+  step-one = λ n c s moon sun love. refuses _ c s _ _;
+  step-two = λ n c s phases love. refuses _ c s _ _;
+  ocean-tide = λ n c s sheet phases frame. refuses _ c s _ _;
+}
+
+pub second : Second
+unfolding place
+second = record {
+  step-one = λ n c s moon sun love. record { here = ten-places n c s moon sun love; elsewhere = others-kept n c s moon sun love; order-zero = order-zero-kept n c s moon sun love };
+  step-two = entries;
+  ocean-tide = λ n c s sheet phases frame e. record {
+    c-here = c-here n c s sheet phases frame e;
+    s-here = s-here n c s sheet phases frame e;
+    c-elsewhere = c-elsewhere n c s sheet phases frame e;
+    s-elsewhere = s-elsewhere n c s sheet phases frame e;
+    order-zero = s-zonal n c s sheet phases frame e;
+  };
+  doodson-back = number-again;
+  multipliers-back = multipliers-again;
+  c20-back = there-and-back;
+}
+
+pub third : Third
+third = record { step-two = close.step-two; ocean-tide = close.ocean-tide }
+
+pub demands : Demands
+demands = record { first = first; second = second; third = third }

@@ -1,0 +1,105 @@
+-- The three demands that the unit is built for, in their words. Each is a record of statements about what the calls are defined to give; that the code
+-- gives it is each call's own contract, and that the definitions are the rules is what must be believed.
+use mathlib.Core.List.{List}
+use mathlib.Core.Logic.{_⊎_}
+use mathlib.Core.Path.{_≡_}
+use Prim.Native.Nat.{ℕ, _≤_, _<_}
+use lib.IntN.{ℤ, pos, _+ℤ_, _-ℤ_}
+use lib.ListN.{getD}
+use Rattle.arguments.specs.declared.Multipliers.{Multipliers}
+use Rattle.arguments.specs.declared.Phases.{Phases}
+use Rattle.bands.specs.Bands.{C20, C21, S21, C22, S22}
+use Rattle.bodies.specs.declared.Body.{Body}
+use Rattle.choices.specs.declared.Frame.{Frame}
+use Rattle.choices.specs.declared.LoveModel.{LoveModel}
+use Rattle.choices.specs.declared.PermanentSystem.{PermanentSystem}
+use Rattle.doodson.specs.Doodson.{readDoodson, writeDoodson}
+use Rattle.field.specs.Field.{place, fieldRefusal}
+use Rattle.ocean.specs.Ocean.{dC, dS}
+use Rattle.ocean_bound.specs.Exact.{atMostNineCounts, exactSum as oceanSum}
+use Rattle.permanent.specs.Systems.{movedC20}
+use Rattle.places.specs.Places.{indexOf}
+use Rattle.refusals.specs.Outcome.{Outcome}
+use Rattle.refusals.specs.Told.Told.{accepted}
+use Rattle.sheet.specs.Sheet.{placeCount, cCos, sCos, cSin, sSin}
+use Rattle.step_one.specs.StepOne.{Counts, places, corrections as bodyCorrections}
+use Rattle.step_two.specs.StepTwo.{corrections as lineCorrections}
+use Rattle.step_two_bound.specs.Exact.{lessThanOneCount, exactSum as lineSum}
+use Rattle.surfgimlet.specs.Calls.{stepOneRefusal, stepOne, stepTwo, oceanRefusal, oceanTide}
+
+-- the entry at k
+abbrev pub at : List ℤ → ℕ → ℤ
+at l k = getD l k (pos 0)
+
+-- what the entry at k gained
+abbrev pub gained : List ℤ → List ℤ → ℕ → ℤ
+gained before after k = at after k -ℤ at before k
+
+-- "Faulty input is refused with the number the description gives, in its order of checks, and then each lent coefficient still has the value it had."
+pub record Refuses (o : Outcome) (number : ℕ) (c s : List ℤ) : Type 0 where
+  pub answered : o .number ≡ number
+  pub kept-c : (number ≡ 0 → ⊥) → o .c ≡ c
+  pub kept-s : (number ≡ 0 → ⊥) → o .s ≡ s
+
+pub record First : Type 0 where
+  pub step-one : (n : ℕ) (c s : List ℤ) (moon sun : Body) (love : LoveModel) → Refuses (stepOne n c s moon sun love) (stepOneRefusal n c s moon sun love) c s
+  pub step-two : (n : ℕ) (c s : List ℤ) (phases : Phases) (love : LoveModel) → Refuses (stepTwo n c s phases love) (fieldRefusal n c s) c s
+  pub ocean-tide : (n : ℕ) (c s : List ℤ) (sheet : List ℕ) (phases : Phases) (frame : Frame) → Refuses (oceanTide n c s sheet phases frame) (oceanRefusal n c s sheet) c s
+
+-- "The solid-tide corrections follow Chapter 6 .., and the ocean ones the synthesis rule ..": each entry that a rule names gains its correction.
+-- "Coefficients a rule does not name keep their values."
+pub record StepOneEntries (n : ℕ) (c s : List ℤ) (moon sun : Body) (love : LoveModel) : Type 0 where
+  pub here : fieldRefusal n c s ≡ 0 → (k : Counts) → bodyCorrections moon sun love ≡ accepted k → (j : ℕ) → j < 10
+      → (at (stepOne n c s moon sun love .c) (getD places j 0) ≡ at c (getD places j 0) +ℤ at (k .c) j)
+      × (at (stepOne n c s moon sun love .s) (getD places j 0) ≡ at s (getD places j 0) +ℤ at (k .s) j)
+  pub elsewhere : (k : ℕ) → (k < place 2 0) ⊎ (place 4 3 ≤ k)
+      → (at (stepOne n c s moon sun love .c) k ≡ at c k) × (at (stepOne n c s moon sun love .s) k ≡ at s k)
+  pub order-zero : (d : ℕ) → at (stepOne n c s moon sun love .s) (place d 0) ≡ at s (place d 0)
+
+pub record StepTwoEntries (n : ℕ) (c s : List ℤ) (phases : Phases) (love : LoveModel) : Type 0 where
+  pub c20 : at (stepTwo n c s phases love .c) (place 2 0) ≡ at c (place 2 0) +ℤ lineCorrections phases love .c20
+  pub c21 : at (stepTwo n c s phases love .c) (place 2 1) ≡ at c (place 2 1) +ℤ lineCorrections phases love .c21
+  pub s21 : at (stepTwo n c s phases love .s) (place 2 1) ≡ at s (place 2 1) +ℤ lineCorrections phases love .s21
+  pub c22 : at (stepTwo n c s phases love .c) (place 2 2) ≡ at c (place 2 2) +ℤ lineCorrections phases love .c22
+  pub s22 : at (stepTwo n c s phases love .s) (place 2 2) ≡ at s (place 2 2) +ℤ lineCorrections phases love .s22
+  pub c-elsewhere : (k : ℕ) → (k < place 2 0) ⊎ (place 3 0 ≤ k) → at (stepTwo n c s phases love .c) k ≡ at c k
+  pub s-elsewhere : (k : ℕ) → (k < place 2 1) ⊎ (place 3 0 ≤ k) → at (stepTwo n c s phases love .s) k ≡ at s k
+
+pub record OceanEntries (n : ℕ) (c s : List ℤ) (sheet : List ℕ) (phases : Phases) (frame : Frame) : Type 0 where
+  pub c-here : (j : ℕ) → j < placeCount sheet → at (oceanTide n c s sheet phases frame .c) (indexOf sheet j) ≡ at c (indexOf sheet j) +ℤ dC sheet phases frame j
+  pub s-here : (j : ℕ) → j < placeCount sheet → at (oceanTide n c s sheet phases frame .s) (indexOf sheet j) ≡ at s (indexOf sheet j) +ℤ dS sheet phases frame j
+  pub c-elsewhere : (k : ℕ) → ((j : ℕ) → j < placeCount sheet → k ≡ indexOf sheet j → ⊥) → at (oceanTide n c s sheet phases frame .c) k ≡ at c k
+  pub s-elsewhere : (k : ℕ) → ((j : ℕ) → j < placeCount sheet → k ≡ indexOf sheet j → ⊥) → at (oceanTide n c s sheet phases frame .s) k ≡ at s k
+  pub order-zero : (d : ℕ) → d ≤ n → at (oceanTide n c s sheet phases frame .s) (place d 0) ≡ at s (place d 0)
+
+pub record Second : Type 0 where
+  pub step-one : (n : ℕ) (c s : List ℤ) (moon sun : Body) (love : LoveModel) → StepOneEntries n c s moon sun love
+  pub step-two : (n : ℕ) (c s : List ℤ) (phases : Phases) (love : LoveModel) → fieldRefusal n c s ≡ 0 → StepTwoEntries n c s phases love
+  pub ocean-tide : (n : ℕ) (c s : List ℤ) (sheet : List ℕ) (phases : Phases) (frame : Frame) → oceanRefusal n c s sheet ≡ 0 → OceanEntries n c s sheet phases frame
+  -- "Doodson numbers turn into multipliers and back without loss"
+  pub doodson-back : (number : ℕ) (n : Multipliers) → readDoodson number ≡ accepted n → writeDoodson n ≡ accepted number
+  pub multipliers-back : (n : Multipliers) (number : ℕ) → writeDoodson n ≡ accepted number → readDoodson number ≡ accepted n
+  -- "a C20 moved to another permanent-tide system and back under the same Love numbers, neither move being refused, returns to the same number"
+  pub c20-back : (c20 d e : ℤ) (from to : PermanentSystem) (love : LoveModel) → movedC20 c20 from to love ≡ accepted d → movedC20 d to from love ≡ accepted e → e ≡ c20
+
+-- "For any six phases, and any sheet and field that are accepted, each ocean correction is at most nine counts from the exact sum, and each second-step solid
+-- correction less than one count", of what each entry gained
+pub record StepTwoClose (n : ℕ) (c s : List ℤ) (phases : Phases) (love : LoveModel) : Type 0 where
+  pub c20 : lessThanOneCount (gained c (stepTwo n c s phases love .c) (place 2 0)) (lineSum phases love C20)
+  pub c21 : lessThanOneCount (gained c (stepTwo n c s phases love .c) (place 2 1)) (lineSum phases love C21)
+  pub s21 : lessThanOneCount (gained s (stepTwo n c s phases love .s) (place 2 1)) (lineSum phases love S21)
+  pub c22 : lessThanOneCount (gained c (stepTwo n c s phases love .c) (place 2 2)) (lineSum phases love C22)
+  pub s22 : lessThanOneCount (gained s (stepTwo n c s phases love .s) (place 2 2)) (lineSum phases love S22)
+
+pub record OceanClose (n : ℕ) (c s : List ℤ) (sheet : List ℕ) (phases : Phases) (frame : Frame) : Type 0 where
+  pub in-c : (j : ℕ) → j < placeCount sheet → atMostNineCounts (gained c (oceanTide n c s sheet phases frame .c) (indexOf sheet j)) (oceanSum sheet phases frame cCos cSin j)
+  pub in-s : (j : ℕ) → j < placeCount sheet → atMostNineCounts (gained s (oceanTide n c s sheet phases frame .s) (indexOf sheet j)) (oceanSum sheet phases frame sCos sSin j)
+
+pub record Third : Type 0 where
+  pub step-two : (n : ℕ) (c s : List ℤ) (phases : Phases) (love : LoveModel) → fieldRefusal n c s ≡ 0 → StepTwoClose n c s phases love
+  pub ocean-tide : (n : ℕ) (c s : List ℤ) (sheet : List ℕ) (phases : Phases) (frame : Frame) → oceanRefusal n c s sheet ≡ 0 → OceanClose n c s sheet phases frame
+
+pub record Demands : Type 0 where
+  pub first : First
+  pub second : Second
+  pub third : Third

@@ -1,0 +1,30 @@
+-- What a call leaves in lent memory: its answer's number, and the value that it tells.
+use mathlib.Core.List.{List, [], _∷_}
+use mathlib.Core.Path.{_≡_}
+use Prim.Native.Nat.{ℕ}
+use lib.IntN.{ℤ}
+use Rattle.arguments.specs.declared.Multipliers.{Multipliers}
+use Rattle.lines.specs.Lines.{Found}
+use Rattle.refusals.specs.Told.{Told, toldNumber, next}
+use Rattle.refusals.specs.Told.Told.{accepted, refused}
+
+-- six multipliers in a lent list, in the order of the arguments
+abbrev pub listed : Multipliers → List ℤ
+listed m = m .tau ∷ m .s ∷ m .h ∷ m .p ∷ m .np ∷ m .ps ∷ []
+
+abbrev pub listedOf : Told Multipliers → Told (List ℤ)
+listedOf told = next told (λ m. accepted (listed m))
+
+-- a printed line's three results
+abbrev pub found : ℕ → ℤ → ℤ → Found
+found index first second = record { index = index; first = first; second = second }
+
+-- what lent memory holds afterwards: the value told, or where the call is refused what it held
+abbrev pub toldOr : {A : Type 0} → A → Told A → A
+toldOr before (accepted a) = a
+toldOr before (refused number) = before
+
+-- a call leaves what it tells: its answer, and the lent results as it returns
+pub record Leaves {A : Type 0} (told : Told A) (before : A) (number : ℕ) (after : A) : Type 0 where
+  pub answer : number ≡ toldNumber told
+  pub result : after ≡ toldOr before told

@@ -1,0 +1,66 @@
+// What a call answers to C beside its number: each value goes to the lent memory that is its own, and where the call is refused the
+// memory keeps what it holds.
+ghost use Rattle.doodson.specs.Doodson.{tellsRead, tellsWritten};
+ghost use Rattle.lines.specs.Lines.{tells as tellsSought};
+ghost use Rattle.permanent.specs.Systems.{tells as tellsMoved};
+ghost use Rattle.leaving.specs.Leaving.{listedOf, found, Leaves};
+use doodson::Read;
+use doodson::Written;
+use lines::Sought;
+use permanent::Moved;
+use refusals::refusal_number;
+
+pub fn leave_moved(told: Moved, moved: &mut i64) -> u32
+    ensures { λ r. ⌜ Leaves (tellsMoved told) (now (moved .entry)) r (now (moved .exit)) ⌝ }
+{
+    match told {
+        Moved::C20(c20) => {
+            *moved = c20;
+            0
+        }
+        Moved::Refused(why) => refusal_number(why),
+    }
+}
+
+// In the order of the arguments.
+pub fn leave_multipliers(told: Read, multipliers: &mut [i32; 6]) -> u32
+    ensures { λ r. ⌜ Leaves (listedOf (tellsRead told)) (now (multipliers .entry)) r (now (multipliers .exit)) ⌝ }
+{
+    match told {
+        Read::Multipliers(m) => {
+            *multipliers = [m.tau, m.s, m.h, m.p, m.np, m.ps];
+            0
+        }
+        Read::Refused(why) => refusal_number(why),
+    }
+}
+
+pub fn leave_number(told: Written, number: &mut u32) -> u32
+    ensures { λ r. ⌜ Leaves (tellsWritten told) (now (number .entry)) r (now (number .exit)) ⌝ }
+{
+    match told {
+        Written::Number(written) => {
+            *number = written;
+            0
+        }
+        Written::Refused(why) => refusal_number(why),
+    }
+}
+
+pub fn leave_line(told: Sought, index: &mut usize, first: &mut i64, second: &mut i64) -> u32
+    ensures { λ r. ⌜ Leaves (tellsSought told) (found (now (index .entry)) (now (first .entry)) (now (second .entry))) r (found (now (index .exit)) (now (first .exit)) (now (second .exit))) ⌝ }
+{
+    match told {
+        Sought::Line {
+            index: i,
+            first: a,
+            second: b,
+        } => {
+            *index = i;
+            *first = a;
+            *second = b;
+            0
+        }
+        Sought::Refused(why) => refusal_number(why),
+    }
+}

@@ -1,0 +1,4 @@
+pub mod Puts
+pub mod Decimals
+pub mod Numbers
+pub mod Cases
