@@ -14,21 +14,21 @@ from given import placed
 COEFFICIENTS = [(n, m, letter) for n, m in [*t.NORMAL, (4, 0), (4, 1), (4, 2)] for letter in ('C', 'S')[:1 + (m > 0)]]
 
 
-# The meridians at which the first term of kR*P + kI*Q or kR*Q - kI*P is so small that the second, with the small kI, weighs as much:
-# where the cosine or the sine of the longitude, or the cosine of twice it, is small.
-MERIDIANS = {(2, 1, 'C'): 0, (2, 1, 'S'): 1, (2, 2, 'C'): 2, (2, 2, 'S'): 0}
-
-
 def near_meridian(u, v, w, which):
-    """The direction, moved beside a meridian of those above."""
+    """The direction, moved to where the cosine or the sine of the longitude, or the cosine of twice it, is small."""
     u, v = ((u / 256, v), (u, v / 256), (v + u / 256, v))[which]
     length = sqrt(u * u + v * v + w * w)
     return u / length, v / length, w / length
 
 
 def pair(chance, which=None):
-    """The Moon and the Sun, or two near bodies, whose parts of degree 3 are of one size; as they are, or of far less mass."""
+    """The Moon and the Sun, or two near bodies, whose parts of degree 3 are of one size; as they are, or of far less mass.
+
+    One pair in four lies near one meridian, or all lie near the one asked for: there the small kI*Q or kI*P weighs as much as the other term.
+    """
     directions = [chance.direction(), chance.direction()]
+    if which is None and chance.one_in(4):
+        which = chance.below(3)
     if which is not None:
         directions = [near_meridian(*direction, which) for direction in directions]
     near = chance.one_in(2)
@@ -62,10 +62,10 @@ def moved_to(goal, coefficient, moon, sun, love):
     return None
 
 
-def at_a_half(chance, coefficient, love):
+def at_a_half(chance, coefficient, love, which=None):
     """A Moon and a Sun whose product is a whole number and a half, or in one case out of two the float next below that."""
     while True:
-        moon, sun = pair(chance, MERIDIANS.get(coefficient) if chance.one_in(2) else None)
+        moon, sun = pair(chance, which)
         half = floor(product_of(coefficient, moon, sun, love)) + 0.5
         found = moved_to(chance.one(half, nextafter(half, -inf)), coefficient, moon, sun, love)
         if found:
