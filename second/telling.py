@@ -21,14 +21,15 @@ def near_meridian(u, v, w, which):
     return u / length, v / length, w / length
 
 
-def pair(chance):
+def pair(chance, which=None):
     """The Moon and the Sun, or two near bodies, whose parts of degree 3 are of one size; as they are, or of far less mass.
 
-    One pair in four lies near one meridian: there the small kI*Q or kI*P weighs as much as the other term.
+    One pair in four lies near one meridian, or all lie near the one asked for: there the small kI*Q or kI*P weighs as much as the other term.
     """
     directions = [chance.direction(), chance.direction()]
-    if chance.one_in(4):
+    if which is None and chance.one_in(4):
         which = chance.below(3)
+    if which is not None:
         directions = [near_meridian(*direction, which) for direction in directions]
     near = chance.one_in(2)
     bodies = []
@@ -61,10 +62,10 @@ def moved_to(goal, coefficient, moon, sun, love):
     return None
 
 
-def at_a_half(chance, coefficient, love):
+def at_a_half(chance, coefficient, love, which=None):
     """A Moon and a Sun whose product is a whole number and a half, or in one case out of two the float next below that."""
     while True:
-        moon, sun = pair(chance)
+        moon, sun = pair(chance, which)
         half = floor(product_of(coefficient, moon, sun, love)) + 0.5
         found = moved_to(chance.one(half, nextafter(half, -inf)), coefficient, moon, sun, love)
         if found:

@@ -250,6 +250,8 @@ def halves():
         found = [telling.at_a_half(chance, coefficient, love) for _ in range(HALVES)]
         for i in range(0, HALVES, 12):
             yield ZEROS, [step_one(*bodies, LOVES.index(love)) for bodies in found[i:i + 12]]
+    for coefficient, which in zip(telling.COEFFICIENTS[1:5], (0, 1, 2, 0)):     # C21, S21, C22, S22 where the rounding of kI*Q or kI*P shows
+        yield ZEROS, [step_one(*telling.at_a_half(chance, coefficient, t.ANELASTIC, which), 1) for _ in range(HALVES)]
 
 
 def ordinary_bodies():
