@@ -2,6 +2,7 @@ pub mod StepOne
 pub mod StepTwo
 pub mod Ocean
 pub mod Close
+pub mod Numbers
 pub mod OneResult
 pub mod Example
 pub mod Proved

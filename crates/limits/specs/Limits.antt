@@ -1,4 +1,4 @@
--- Every bound of document 01, each as the test of a number.
+-- The bounds of document 01, each as the test of a number. A direction's tolerance and a digit's range stand with their rules.
 use mathlib.Core.Bool.{Bool, _&&_}
 use Prim.Native.Nat.{ℕ, _^_}
 use lib.Dec.{leb}

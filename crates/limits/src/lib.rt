@@ -1,4 +1,4 @@
-// Every bound of document 01, named once: a test of each, and the lengths that arrays take from them.
+// The bounds of document 01, each named once: a test of a number. A direction's tolerance and a digit's range stand with their rules.
 ghost use mathlib.Core.Path.{_≡_};
 ghost use Rattle.limits.specs.Limits.{isDegree, isEntry, isDistance, isRatio, isCountable, isDoodson, isLineCount, isTideCount, isPlaceCount, isMultiplier, isRowTotal, isSheetDegree, isCoefficient};
 
@@ -22,11 +22,11 @@ const COUNTABLE: f64 = 4503599627370496.0;
 const LARGEST_DOODSON: u32 = 999999;
 
 // The lines, tides and places that a sheet has at most.
-pub const LINES: usize = 128;
+const LINES: usize = 128;
 
-pub const TIDES: usize = 32;
+const TIDES: usize = 32;
 
-pub const PLACES: usize = 90;
+const PLACES: usize = 90;
 
 const LARGEST_MULTIPLIER: i32 = 13;
 

@@ -1,2 +1,2 @@
 pub mod Potential
-pub mod Halves
+pub mod Inner

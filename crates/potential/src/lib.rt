@@ -1,7 +1,7 @@
 // The tide-generating potential of the Moon and the Sun (001, eqs. 1 and 2; document 01, "Step one"): P and Q of each degree and order.
 ghost use mathlib.Core.Path.{_≡_};
 ghost use Rattle.potential.specs.Potential.{terms, shared};
-ghost use Rattle.potential.specs.Halves.{strengths, paired};
+ghost use Rattle.potential.specs.Inner.{strengths, paired};
 use bodies::Direction;
 use constants::Norms;
 use constants::norms_of;

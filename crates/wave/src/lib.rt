@@ -102,11 +102,3 @@ pub fn wave_of(phase: u32) -> Wave
         cosine: sine_in((e + 2) % 8, sine, cosine),
     }
 }
-
-// The sine of a phase.
-pub fn sine_of(phase: u32) -> i64
-    ensures { λ r. ⌜ r ≡ sin phase ⌝ }
-{
-    let wave = wave_of(phase);
-    wave.sine
-}

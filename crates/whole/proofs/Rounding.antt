@@ -1,4 +1,4 @@
--- What is known of `nearest`, and all that anything else cites of it: which way a half goes stands in the first two laws.
+-- What is known of `nearest`, and all that proofs cite of it, but where a case is computed: which way a half goes stands in the first two laws.
 use mathlib.Core.Path.{_≡_, refl, ap, _∙_}
 use Prim.Native.Nat.{ℕ, zero, suc, _+_, _-_, _*_, _/_, _≤_, _<_}
 use native.Mathlib.Nat.{mul-le-mul-left, lt-of-mul-lt-mul-left, div-mul-le-self, lt-div-mul-add}

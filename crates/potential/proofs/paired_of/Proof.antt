@@ -1,7 +1,7 @@
 -- The same products.
 use borrow.Author.Needs.{needs}
 use mathlib.Core.Path.{refl}
-use Rattle.potential.specs.Halves.{paired}
+use Rattle.potential.specs.Inner.{paired}
 use Rattle.potential.proofs.paired_of.Statement.{statement}
 use Rattle.potential.proofs.paired_of.Tie as tie
 

@@ -1,7 +1,7 @@
 -- The same operations, in the same order.
 use mathlib.Core.Path.{refl}
 use lib.Ieee.{ofBits, round}
-use Rattle.potential.specs.Halves.{strengths}
+use Rattle.potential.specs.Inner.{strengths}
 use Rattle.potential.proofs.strengths_of.Statement.{statement}
 use Rattle.potential.proofs.strengths_of.Tie as tie
 

@@ -2,7 +2,7 @@
 use borrow.Author.Needs.{needs}
 use Rattle.powers.specs.Powers.{powers}
 use Rattle.potential.specs.Potential.{terms}
-use Rattle.potential.specs.Halves.{strengths, paired}
+use Rattle.potential.specs.Inner.{strengths, paired}
 use Rattle.potential.proofs.terms_of.Statement.{statement}
 use Rattle.potential.proofs.terms_of.Tie as tie
 
