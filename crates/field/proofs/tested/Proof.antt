@@ -1,7 +1,8 @@
 -- The two tests are the definition's.
 use borrow.Author.Needs.{needs}
-use mathlib.Core.Path.{refl, sym, _∙_}
-use Rattle.field.specs.Field.{fieldRefusal}
+use mathlib.Core.Bool.{Bool, _&&_}
+use mathlib.Core.Path.{_≡_, refl, sym, _∙_}
+use Rattle.field.specs.Field.{everyInRange, fieldRefusal}
 use Rattle.field.proofs.tested.Statement.{statement}
 use Rattle.field.proofs.tested.Tie as tie
 
@@ -14,21 +15,29 @@ all-in-range-requires c κs = search needs
 all-in-range-requires-2 : tie.Need-all-in-range-requires-2
 all-in-range-requires-2 c κs = search needs
 
+-- both lists' tests, which the code takes together
+tested-both : (a b c d : Bool) → a ≡ c → b ≡ d → (c && d) ≡ (a && b)
+tested-both a b c d p q = rw (p, q) refl
+
+-- where the shape passed
+module _ (c : tie.After-all-in-range2) where
+  abbrev x : tie.Start
+  x = c .before .before .before .before
+
+  ranges : (everyInRange (x .args .c .now) && everyInRange (x .args .s .now)) ≡ (c .before .all-in-range .result && c .all-in-range2 .result)
+  ranges = tested-both _ _ _ _ (c .before .all-in-range .ensures) (c .all-in-range2 .ensures)
+
 returns : tie.Need-returns
 unfolding fieldRefusal
 returns c =
-    let both = c .before in
-    let first = both .before in
-    let shape = first .before in
-    rw (sym (shape .before .is-shaped .ensures) ∙ shape .if1 .taken, sym (first .all-in-range .ensures), sym (both .all-in-range2 .ensures), c .if2 .taken) refl
+    let shape = c .before .before .before in
+    rw (sym (shape .before .is-shaped .ensures) ∙ shape .if1 .taken, ranges (c .before) ∙ c .if2 .taken) refl
 
 returns-2 : tie.Need-returns-2
 unfolding fieldRefusal
 returns-2 c =
-    let both = c .before in
-    let first = both .before in
-    let shape = first .before in
-    rw (sym (shape .before .is-shaped .ensures) ∙ shape .if1 .taken, sym (first .all-in-range .ensures), sym (both .all-in-range2 .ensures), c .if2 .left) refl
+    let shape = c .before .before .before in
+    rw (sym (shape .before .is-shaped .ensures) ∙ shape .if1 .taken, ranges (c .before) ∙ c .if2 .left) refl
 
 returns-3 : tie.Need-returns-3
 unfolding fieldRefusal
