@@ -16,8 +16,8 @@ flags=$(pkg-config --cflags --libs surfgimlet)
 modules=$(pkg-config --variable=modules surfgimlet)
 
 strict="-O2 -Wall -Wextra -pedantic -Werror"
-$CC -std=c99 $strict -static examples/epoch.c $flags -o "$work/epoch_c"
-$FC -std=f2008 $strict -static -J "$work" "$modules/surfgimlet.f90" examples/epoch.f90 $flags -o "$work/epoch_fortran"
+$CC -std=c99 $strict $LINK examples/epoch.c $flags -o "$work/epoch_c"
+$FC -std=f2008 $strict $LINK -J "$work" "$modules/surfgimlet.f90" examples/epoch.f90 $flags -o "$work/epoch_fortran"
 programs=("$RUN $work/epoch_c" "$RUN $work/epoch_fortran")
 if [ "$EMULATED" = no ]; then
     $CC -std=c99 $strict examples/epoch.c $flags -o "$work/epoch_shared"

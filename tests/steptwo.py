@@ -15,7 +15,7 @@ sys.path.insert(0, str(ROOT / 'second'))
 import tides
 from chance import Chance
 
-PROGRAM = ([] if platform.machine() == 'x86_64' else ['qemu-x86_64']) + [str(ROOT / 'target' / 'bin' / 'steptwo')]
+PROGRAM = ([] if platform.machine() == 'x86_64' else ['qemu-x86_64', '-L', '/usr/x86_64-linux-gnu']) + [str(ROOT / 'target' / 'bin' / 'steptwo')]
 LENGTHS = 0, 1, 23, 24, 25, 48
 PHASES = 300
 

@@ -1,17 +1,18 @@
-# Sourced from the root: the compilers of x86-64 programs as CC, CXX and FC, the lister of their symbols as NM, what runs
-# such a program as RUN, and whether that is an emulator as EMULATED. Where this is root, missing packages are installed.
+# Sourced from the root: the compilers of x86-64 programs as CC, CXX and FC, how they link as LINK, the lister of their symbols as NM,
+# what runs such a program as RUN, and whether that is an emulator as EMULATED. Where this is root, missing packages are installed.
+# The cross library's static mathematics cannot be linked where Debian puts it, so what an emulator runs is linked to the shared one.
 if [ "$(uname -m)" = x86_64 ]; then
-    CC=gcc CXX=g++ FC=gfortran NM=nm RUN= EMULATED=no
+    CC=gcc CXX=g++ FC=gfortran LINK=-static NM=nm RUN= EMULATED=no
     packages="gcc g++ gfortran libc6-dev python3 binutils pkg-config"
     library=
 else
-    CC=x86_64-linux-gnu-gcc CXX=x86_64-linux-gnu-g++ FC=x86_64-linux-gnu-gfortran NM=x86_64-linux-gnu-nm RUN=qemu-x86_64 EMULATED=yes
+    CC=x86_64-linux-gnu-gcc CXX=x86_64-linux-gnu-g++ FC=x86_64-linux-gnu-gfortran LINK= NM=x86_64-linux-gnu-nm RUN="qemu-x86_64 -L /usr/x86_64-linux-gnu" EMULATED=yes
     packages="gcc-x86-64-linux-gnu g++-x86-64-linux-gnu gfortran-x86-64-linux-gnu libc6-dev-amd64-cross binutils-x86-64-linux-gnu qemu-user python3 pkg-config"
     library=/usr/x86_64-linux-gnu/include/stdio.h
 fi
 
 missing() {
-    for tool in $CC $CXX $FC $NM $RUN python3 pkg-config; do command -v "$tool" >/dev/null || { echo "$tool"; return; }; done
+    for tool in $CC $CXX $FC $NM ${RUN%% *} python3 pkg-config; do command -v "$tool" >/dev/null || { echo "$tool"; return; }; done
     [ -z "$library" ] || [ -e "$library" ] || echo "$library"
 }
 
