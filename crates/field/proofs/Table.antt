@@ -1,14 +1,15 @@
 -- Refusals 1 and 2 are given exactly when 01's table says.
 use borrow.Author.Tests.{leb-true, eqb-true, le-leb, eq-eqb}
-use mathlib.Core.Path.{_≡_, refl, sym, subst}
-use mathlib.Core.Bool.{Bool, true, false, cond, _&&_}
+use mathlib.Core.Path.{_≡_}
+use mathlib.Core.Bool.{true, _&&_}
 use mathlib.Core.List.{List}
 use mathlib.Core.Logic.{_↔_}
 use Prim.Native.Nat.{ℕ, _^_, _≤_}
 use native.Mathlib.Omega.{arith}
-use lib.Dec.{T, leb, eqb}
+use lib.Dec.{leb, eqb}
 use lib.IntN.{ℤ, pos, natAbs}
 use lib.ListN.{length, getD}
+use Rattle.refusals.proofs.Outcomes.{two-tests}
 use Rattle.whole.proofs.Tests.{and-left, and-right}
 use Rattle.field.specs.Field.{size, shaped, shapedBy, everyInRange, fieldRefusal}
 use Rattle.field.proofs.Entries.{entry-in-range, every-small}
@@ -45,33 +46,11 @@ is-in-range c s = (
   λ h. rw (every-small c (λ k b. h .0 .entry k), every-small s (λ k b. h .1 .entry k)),
 )
 
-clash : {X : Type 0} → true ≡ false → X
-clash e = absurd (subst T e tt)
-
--- of two tests, each with what it says
-module _ {A B : Type 0} where
-  zero-one-two : (a b : Bool) → a ≡ true ↔ A → b ≡ true ↔ B
-      → (_≡_ {A = ℕ} (cond a (cond b 0 2) 1) 0 ↔ (A × B)) × (_≡_ {A = ℕ} (cond a (cond b 0 2) 1) 1 ↔ (A → ⊥)) × (_≡_ {A = ℕ} (cond a (cond b 0 2) 1) 2 ↔ (A × (B → ⊥)))
-  zero-one-two true true p q = (
-    (λ e. (p .0 refl, q .0 refl), λ h. refl),
-    (λ e. absurd (omega arith), λ h. absurd (h (p .0 refl))),
-    (λ e. absurd (omega arith), λ h. absurd (h .1 (q .0 refl))),
-  )
-  zero-one-two true false p q = (
-    (λ e. absurd (omega arith), λ h. clash (sym (q .1 (h .1)))),
-    (λ e. absurd (omega arith), λ h. absurd (h (p .0 refl))),
-    (λ e. (p .0 refl, λ b. clash (sym (q .1 b))), λ h. refl),
-  )
-  zero-one-two false b p q = (
-    (λ e. absurd (omega arith), λ h. clash (sym (p .1 (h .0)))),
-    (λ e a. clash (sym (p .1 a)), λ h. refl),
-    (λ e. absurd (omega arith), λ h. clash (sym (p .1 (h .0)))),
-  )
-
 -- 0: neither; 1: N outside 4..60, or either list of another length; 2: else an entry outside the range
 pub field-table : (n : ℕ) (c s : List ℤ)
     → (fieldRefusal n c s ≡ 0 ↔ (Shaped n c s × (InRange c × InRange s)))
     × (fieldRefusal n c s ≡ 1 ↔ (Shaped n c s → ⊥))
     × (fieldRefusal n c s ≡ 2 ↔ (Shaped n c s × ((InRange c × InRange s) → ⊥)))
 unfolding fieldRefusal
-field-table n c s = zero-one-two (shaped n c s) (everyInRange c && everyInRange s) (is-shaped n c s) (is-in-range c s)
+field-table n c s =
+    two-tests 1 2 (omega arith) (omega arith) (λ e. omega (arith, e)) (shaped n c s) (everyInRange c && everyInRange s) (is-shaped n c s) (is-in-range c s)

@@ -1,9 +1,10 @@
--- The bounds of document 01, each as the test of a number. A direction's tolerance and a digit's range stand with their rules.
+-- The bounds of documents 01 and 02, each as the test of a number. A direction's tolerance and a digit's range stand with their rules.
 use mathlib.Core.Bool.{Bool, _&&_}
 use Prim.Native.Nat.{ℕ, _^_}
 use lib.Dec.{leb}
 use lib.Ieee.{Float, le, lt}
-use lib.IntN.{ℤ, natAbs}
+use lib.IntN.{ℤ, pos, natAbs}
+use lib.Signed.{leZ}
 use Rattle.doubles.specs.Doubles.{number, minus-number}
 
 -- ---- "Units and the field"
@@ -60,3 +61,16 @@ isSheetDegree n = leb 1 n && leb n 12
 -- "each within ±2^24"
 abbrev pub isCoefficient : ℤ → Bool
 isCoefficient z = leb (natAbs z) (2 ^ 24)
+
+-- ---- T-01, "Tide lines of our own"
+-- "up to 64 records"
+abbrev pub isRecordCount : ℕ → Bool
+isRecordCount n = leb n 64
+
+-- "the first 0, 1 or 2"
+abbrev pub isFirstMultiplier : ℤ → Bool
+isFirstMultiplier k = leZ (pos 0) k && leZ k (pos 2)
+
+-- "Any absolute amplitude is at most 100,000"
+abbrev pub isAmplitude : ℤ → Bool
+isAmplitude a = leb (natAbs a) 100000

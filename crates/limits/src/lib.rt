@@ -1,6 +1,6 @@
-// The bounds of document 01, each named once: a test of a number. A direction's tolerance and a digit's range stand with their rules.
+// The bounds of documents 01 and 02, each named once: a test of a number. A direction's tolerance and a digit's range stand with their rules.
 ghost use mathlib.Core.Path.{_≡_};
-ghost use Rattle.limits.specs.Limits.{isDegree, isEntry, isDistance, isRatio, isCountable, isDoodson, isLineCount, isTideCount, isPlaceCount, isMultiplier, isRowTotal, isSheetDegree, isCoefficient};
+ghost use Rattle.limits.specs.Limits.{isDegree, isEntry, isDistance, isRatio, isCountable, isDoodson, isLineCount, isTideCount, isPlaceCount, isMultiplier, isRowTotal, isSheetDegree, isCoefficient, isRecordCount, isFirstMultiplier, isAmplitude};
 
 const LEAST_DEGREE: u32 = 4;
 
@@ -37,6 +37,14 @@ const LARGEST_SHEET_DEGREE: usize = 12;
 
 // 2^24
 const LARGEST_COEFFICIENT: i64 = 16777216;
+
+// The records that a list of own lines has at most.
+const RECORDS: usize = 64;
+
+const LARGEST_FIRST_MULTIPLIER: i32 = 2;
+
+// In tenths of 10^-12.
+const LARGEST_AMPLITUDE: i64 = 100000;
 
 pub fn is_degree(n: u32) -> bool
     ensures { λ r. ⌜ r ≡ isDegree n ⌝ }
@@ -115,4 +123,23 @@ pub fn is_coefficient(z: i64) -> bool
     ensures { λ r. ⌜ r ≡ isCoefficient z ⌝ }
 {
     (-LARGEST_COEFFICIENT <= z) & (z <= LARGEST_COEFFICIENT)
+}
+
+pub fn is_record_count(n: usize) -> bool
+    ensures { λ r. ⌜ r ≡ isRecordCount n ⌝ }
+{
+    n <= RECORDS
+}
+
+pub fn is_first_multiplier(k: i32) -> bool
+    ensures { λ r. ⌜ r ≡ isFirstMultiplier k ⌝ }
+{
+    (0 <= k) & (k <= LARGEST_FIRST_MULTIPLIER)
+}
+
+// No absolute value is taken: the least number of 64 bits has none.
+pub fn is_amplitude(a: i64) -> bool
+    ensures { λ r. ⌜ r ≡ isAmplitude a ⌝ }
+{
+    (-LARGEST_AMPLITUDE <= a) & (a <= LARGEST_AMPLITUDE)
 }

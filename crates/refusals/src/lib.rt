@@ -1,4 +1,4 @@
-// What a call answers: accepted, or refused with a number (document 01, "Refusal numbers").
+// What a call answers: accepted, or refused with a number (document 01, "Refusal numbers", and the requests of 02 that add one).
 ghost use mathlib.Core.Path.{_≡_};
 ghost use Rattle.refusals.specs.Numbers.{refusalNumber, answerNumber};
 ghost use Rattle.refusals.specs.Outcome.{firstOf};
@@ -16,6 +16,8 @@ pub enum Refusal {
     SheetDegree,
     NotDoodson,
     NoSuchLine,
+    RecordCount,
+    RecordValue,
 }
 
 // The answer of a call whose results stand in lent memory.
@@ -40,6 +42,8 @@ pub fn refusal_number(why: Refusal) -> u32
         Refusal::SheetDegree => 9,
         Refusal::NotDoodson => 10,
         Refusal::NoSuchLine => 11,
+        Refusal::RecordCount => 12,
+        Refusal::RecordValue => 13,
     }
 }
 

@@ -25,6 +25,11 @@ all-at f (suc n) e i h =
     ⊎-elim (λ q. subst (λ (k : ℕ). f k ≡ true) (omega arith) (and-right (allTo f n) (f n) e)) (λ l. all-at f n (and-left (allTo f n) (f n) e) i l)
     (eq-or-lt-of-le (le-of-suc-le-suc h))
 
+pub all-of : (f : ℕ → Bool) (n : ℕ) → ((i : ℕ) → i < n → f i ≡ true) → allTo f n ≡ true
+unfolding allTo
+all-of f zero h = refl
+all-of f (suc n) h = rw (all-of f n (λ i l. h i (omega arith)), h n (omega arith)) refl
+
 pub weight-none : (f : ℕ → ℤ) → 0 ≡ weightTo f 0
 unfolding weightTo
 weight-none f = refl
