@@ -27,7 +27,7 @@ minus-fits z h = rw (read z (omega arith)) (difference-fits w64 (pos 0) z (omega
 pub minus-read : (z : ℤ) → natAbs z ≤ 2 ^ 24 → toZ w64 (ofZ w64 (pos 0 -ℤ toZ w64 (ofZ w64 z))) ≡ negℤ z
 minus-read z h = toZ-ofZ (minus-fits z h) ∙ ap (λ (x : ℤ). pos 0 -ℤ x) (read z (omega arith)) ∙ +ℤ-idl (negℤ z)
 
-minus-same : (z : ℤ) → natAbs (negℤ z) ≡ natAbs z
+pub minus-same : (z : ℤ) → natAbs (negℤ z) ≡ natAbs z
 minus-same z = omega (arith, abs z, abs (negℤ z), up-neg z, dn-neg z)
 
 minus-small : (z : ℤ) → natAbs z ≤ 2 ^ 24 → natAbs (negℤ z) ≤ 2 ^ 24
@@ -58,7 +58,7 @@ module _ (sums : Sums) (line : Line) (c s : ℤ) where
   diurnal e p q =
       rw e (λ i. record { c20 = same (sums .c20) c s i; c21 = p i; s21 = q i; c22 = same (sums .c22) c s i; s22 = same (sums .s22) c s i })
 
-  pub long-period : line .band ≡ LongPeriod → {x : ℤ} → x ≡ sums .c20 +ℤ (ip *ℤ c +ℤ op *ℤ s)
+  pub long-period : line .band ≡ LongPeriod → {x : ℤ} → x ≡ sums .c20 +ℤ (ip *ℤ c +ℤ negℤ op *ℤ s)
       → _≡_ {A = Sums} (record { c20 = x; c21 = sums .c21; s21 = sums .s21; c22 = sums .c22; s22 = sums .s22 }) (plusLine sums line c s)
   unfolding plusLine term ofBand ofLongPeriod
   long-period e p =
@@ -78,7 +78,7 @@ taken-size Diurnal C21 ip op = omega arith
 taken-size Diurnal S21 ip op = omega (arith, minus-same op)
 taken-size Diurnal C22 ip op = omega arith
 taken-size Diurnal S22 ip op = omega arith
-taken-size LongPeriod C20 ip op = omega arith
+taken-size LongPeriod C20 ip op = omega (arith, minus-same op)
 taken-size LongPeriod C21 ip op = omega arith
 taken-size LongPeriod S21 ip op = omega arith
 taken-size LongPeriod C22 ip op = omega arith

@@ -1,11 +1,20 @@
--- Document 01, "Step two (001, Tables 6.2)": which amplitude of a line goes with the cosine and which with the sine, and with which sign.
+-- Document 01, "Step two (001, Tables 6.2)", and document 02, T-01: which amplitude of a line goes with the cosine and which with the sine, and with
+-- which sign; the sums over lines, and the corrections.
+use Prim.Native.Nat.{ℕ, _^_}
 use lib.IntN.{ℤ, pos, negℤ, _+ℤ_, _*ℤ_}
+use Rattle.whole.specs.Nearest.{nearest}
+use Rattle.whole.specs.Sum.{sumTo}
 use Rattle.bands.specs.declared.Band.{Band}
 use Rattle.bands.specs.declared.Band.the-variants.{Diurnal, LongPeriod, Semidiurnal}
+use Rattle.bands.specs.declared.Corrections.{Corrections}
 use Rattle.bands.specs.declared.Line.{Line}
 use Rattle.bands.specs.declared.Sums.{Sums}
 
--- the coefficients that step two corrects
+-- amplitudes are tenths of 10^-12, that is 100 counts
+abbrev pub inCounts : ℤ → ℤ
+inCounts a = a *ℤ pos 100
+
+-- the coefficients that lines correct
 pub data Coefficient : Type 0 where
   C20 : Coefficient
   C21 : Coefficient
@@ -21,16 +30,16 @@ pub record Taken : Type 0 where
 abbrev nothing : Taken
 nothing = record { cosine = pos 0; sine = pos 0 }
 
--- "C20 takes ip*cosine + op*sine (caption of 6.2b)"
+-- "In-phase amplitudes follow the printed band rules; op, the amplitude times the imaginary part, enters as 001's equations give it"
+-- "C20 -op*sine", and ip*cosine as printed
 unfoldable pub ofLongPeriod : Coefficient → ℤ → ℤ → Taken
-ofLongPeriod C20 ip op = record { cosine = ip; sine = op }
+ofLongPeriod C20 ip op = record { cosine = ip; sine = negℤ op }
 ofLongPeriod C21 ip op = nothing
 ofLongPeriod S21 ip op = nothing
 ofLongPeriod C22 ip op = nothing
 ofLongPeriod S22 ip op = nothing
 
--- "C21 takes the sine, S21 the cosine": so the in-phase amplitude; an out-of-phase one, which no printed line of this band has, takes the
--- other wave, with the signs of 001
+-- "C21 takes the sine, S21 the cosine": so the in-phase amplitude; "C21 op*cosine, S21 -op*sine"
 unfoldable pub ofDiurnal : Coefficient → ℤ → ℤ → Taken
 ofDiurnal C20 ip op = nothing
 ofDiurnal C21 ip op = record { cosine = op; sine = ip }
@@ -38,7 +47,7 @@ ofDiurnal S21 ip op = record { cosine = ip; sine = negℤ op }
 ofDiurnal C22 ip op = nothing
 ofDiurnal S22 ip op = nothing
 
--- "C22 takes the cosine, S22 minus the sine", and an out-of-phase amplitude as above
+-- "C22 takes the cosine, S22 minus the sine"; "C22 -op*sine, S22 -op*cosine"
 unfoldable pub ofSemidiurnal : Coefficient → ℤ → ℤ → Taken
 ofSemidiurnal C20 ip op = nothing
 ofSemidiurnal C21 ip op = nothing
@@ -67,3 +76,23 @@ plusLine sums line cosine sine = record {
   c22 = sums .c22 +ℤ term C22 line cosine sine;
   s22 = sums .s22 +ℤ term S22 line cosine sine;
 }
+
+-- Over the first n of given lines, with given cosines and sines: the lines may be the printed ones or others, the waves the rounded ones, the
+-- exact ones or kept ones.
+module _ (lines : ℕ → Line) (cosines sines : ℕ → ℤ) (n : ℕ) where
+  -- "Sum amplitude*100*sine without rounding"
+  unfoldable pub sumOf : Coefficient → ℤ
+  sumOf k = sumTo (λ i. term k (lines i) (cosines i) (sines i)) n
+
+  -- "nearest of sum/2^30 once"
+  unfoldable pub correctionOf : Coefficient → ℤ
+  correctionOf k = nearest (sumOf k) (2 ^ 30)
+
+  unfoldable pub correctionsOf : Corrections
+  correctionsOf = record {
+    c20 = correctionOf C20;
+    c21 = correctionOf C21;
+    s21 = correctionOf S21;
+    c22 = correctionOf C22;
+    s22 = correctionOf S22;
+  }

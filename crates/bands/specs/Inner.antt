@@ -1,9 +1,12 @@
--- What the inner functions ask of their callers, so that no sum leaves 64 bits: 64 lines of at most 2^24 counts have room, their waves being any
--- signed 32-bit numbers.
-use Prim.Native.Nat.{_^_, _≤_}
+-- What the inner functions ask of their callers and answer, so that no sum leaves 64 bits: 64 lines of at most 2^24 counts have room, their waves
+-- being any signed 32-bit numbers; and corrections that no entry in range overflows with.
+use Prim.Native.Nat.{ℕ, _^_, _≤_}
 use lib.IntN.{ℤ, natAbs}
+use Rattle.whole.specs.Nearest.{nearest}
+use Rattle.bands.specs.declared.Corrections.{Corrections}
 use Rattle.bands.specs.declared.Line.{Line}
 use Rattle.bands.specs.declared.Sums.{Sums}
+use Rattle.bands.specs.Bands.{C20, C21, S21, C22, S22, sumOf}
 
 pub record Room (sum a cosine b sine : ℤ) : Type 0 where
   pub sum-small : natAbs sum ≤ 2 ^ 62
@@ -11,6 +14,11 @@ pub record Room (sum a cosine b sine : ℤ) : Type 0 where
   pub cosine-small : natAbs cosine ≤ 2 ^ 31
   pub b-small : natAbs b ≤ 2 ^ 24
   pub sine-small : natAbs sine ≤ 2 ^ 31
+
+-- both amplitudes of a line are at most m counts
+pub record Light (m : ℕ) (line : Line) : Type 0 where
+  pub ip : natAbs (line .ip) ≤ m
+  pub op : natAbs (line .op) ≤ m
 
 pub record LineRoom (sums : Sums) (line : Line) (cosine sine : ℤ) : Type 0 where
   pub c20-small : natAbs (sums .c20) ≤ 2 ^ 62
@@ -22,3 +30,35 @@ pub record LineRoom (sums : Sums) (line : Line) (cosine sine : ℤ) : Type 0 whe
   pub op-small : natAbs (line .op) ≤ 2 ^ 24
   pub cosine-small : natAbs cosine ≤ 2 ^ 31
   pub sine-small : natAbs sine ≤ 2 ^ 31
+
+unfoldable pub sumsOf : (ℕ → Line) → (ℕ → ℤ) → (ℕ → ℤ) → ℕ → Sums
+sumsOf lines cosines sines n = record {
+  c20 = sumOf lines cosines sines n C20;
+  c21 = sumOf lines cosines sines n C21;
+  s21 = sumOf lines cosines sines n S21;
+  c22 = sumOf lines cosines sines n C22;
+  s22 = sumOf lines cosines sines n S22;
+}
+
+pub record Bounded (sums : Sums) : Type 0 where
+  pub c20 : natAbs (sums .c20) ≤ 2 ^ 62
+  pub c21 : natAbs (sums .c21) ≤ 2 ^ 62
+  pub s21 : natAbs (sums .s21) ≤ 2 ^ 62
+  pub c22 : natAbs (sums .c22) ≤ 2 ^ 62
+  pub s22 : natAbs (sums .s22) ≤ 2 ^ 62
+
+unfoldable pub roundedOf : Sums → Corrections
+roundedOf sums = record {
+  c20 = nearest (sums .c20) (2 ^ 30);
+  c21 = nearest (sums .c21) (2 ^ 30);
+  s21 = nearest (sums .s21) (2 ^ 30);
+  c22 = nearest (sums .c22) (2 ^ 30);
+  s22 = nearest (sums .s22) (2 ^ 30);
+}
+
+pub record Small (d : Corrections) : Type 0 where
+  pub c20 : natAbs (d .c20) ≤ 2 ^ 60
+  pub c21 : natAbs (d .c21) ≤ 2 ^ 60
+  pub s21 : natAbs (d .s21) ≤ 2 ^ 60
+  pub c22 : natAbs (d .c22) ≤ 2 ^ 60
+  pub s22 : natAbs (d .s22) ≤ 2 ^ 60

@@ -18,7 +18,7 @@ use Rattle.refusals.specs.Outcome.{Outcome}
 use Rattle.listing.specs.Listing.{listingOf}
 use Rattle.permanent.specs.Systems.{movedC20}
 use Rattle.sheet.specs.Accepted.{sheetRefusal}
-use Rattle.step_two.specs.declared.Corrections.{Corrections}
+use Rattle.bands.specs.declared.Corrections.{Corrections}
 use Rattle.step_two.specs.StepTwo.{corrections}
 use Rattle.surfgimlet.specs.Calls.{oceanTide}
 use Rattle.text.specs.Text.{ascii}

@@ -20,7 +20,9 @@ use Rattle.choices.specs.declared.LoveModel.the-variants.{Elastic, Anelastic}
 use Rattle.whole.proofs.Tests.{and-left, and-right}
 use Rattle.doodson.specs.Doodson.{digit, multipliersIn}
 use Rattle.limits.specs.Limits.{isDoodson}
-use Rattle.lines.specs.Lines.{diurnal, longPeriod, semidiurnal, printed, lineAt, multipliersAt, bandAt, inCounts, inModel, printedLine, nowhere, Printed}
+use Rattle.bands.specs.Bands.{inCounts}
+use Rattle.bands.proofs.Terms.{minus-same}
+use Rattle.lines.specs.Lines.{diurnal, longPeriod, semidiurnal, printed, lineAt, multipliersAt, bandAt, inModel, printedLine, nowhere, Printed}
 use Rattle.lines.specs.Inner.{digitsOf, numberIn, multipliersBy, digits, firsts, seconds}
 
 pub count : length printed ≡ 49
@@ -65,7 +67,7 @@ unfolding small lineAt printed diurnal longPeriod semidiurnal
 amplitudes-small i = each-small printed refl i
 
 -- so no printed line has more than 472,000 counts in phase or out of it, in either model
-counts-small : (a : ℤ) → natAbs a ≤ 4720 → natAbs (inCounts a) ≤ 472000
+pub counts-small : (a : ℤ) → natAbs a ≤ 4720 → natAbs (inCounts a) ≤ 472000
 counts-small a h = omega (arith, abs-product a (pos 100))
 
 model-small : (band : Band) (love : LoveModel) (a b : ℤ) → natAbs a ≤ 4720 → natAbs b ≤ 4720
@@ -74,7 +76,7 @@ unfolding inModel
 model-small Diurnal Elastic a b ha hb = (counts-small a ha, omega arith)
 model-small Diurnal Anelastic a b ha hb = (counts-small b hb, omega arith)
 model-small LongPeriod Elastic a b ha hb = (omega arith, omega arith)
-model-small LongPeriod Anelastic a b ha hb = (counts-small a ha, counts-small b hb)
+model-small LongPeriod Anelastic a b ha hb = (counts-small a ha, omega (arith, minus-same (inCounts b), counts-small b hb))
 model-small Semidiurnal love a b ha hb = (counts-small a ha, omega arith)
 
 pub printed-small : (love : LoveModel) (i : ℕ) → (natAbs (printedLine love i .ip) ≤ 472000) × (natAbs (printedLine love i .op) ≤ 472000)

@@ -3,7 +3,7 @@ use mathlib.Core.Bool.{cond}
 use mathlib.Core.List.{List, [], _∷_, _++_}
 use Prim.Native.Nat.{ℕ, _+_}
 use lib.Dec.{ltb, eqb}
-use lib.IntN.{ℤ, pos, negℤ, _*ℤ_}
+use lib.IntN.{ℤ, pos, negℤ}
 use lib.ListN.{getD}
 use Rattle.arguments.specs.declared.Multipliers.{Multipliers}
 use Rattle.arguments.specs.declared.Phases.{Phases}
@@ -11,6 +11,7 @@ use Rattle.arguments.specs.Phase.{phase}
 use Rattle.bands.specs.declared.Band.{Band}
 use Rattle.bands.specs.declared.Band.the-variants.{Diurnal, LongPeriod, Semidiurnal}
 use Rattle.bands.specs.declared.Line.{Line as BandLine}
+use Rattle.bands.specs.Bands.{inCounts}
 use Rattle.choices.specs.declared.LoveModel.{LoveModel}
 use Rattle.choices.specs.declared.LoveModel.the-variants.{Elastic, Anelastic}
 use Rattle.refusals.specs.Numbers.{refusalNumber}
@@ -124,16 +125,13 @@ linePhase phases i = phase (multipliersAt i) phases
 unfoldable pub bandAt : ℕ → Band
 bandAt i = cond (ltb i 26) Diurnal (cond (ltb i 47) LongPeriod Semidiurnal)
 
--- amplitudes are tenths of 10^-12, that is 100 counts
-abbrev pub inCounts : ℤ → ℤ
-inCounts a = a *ℤ pos 100
-
 -- diurnal, elastic/anelastic; long period, anelastic only, ip/op; semidiurnal, both models
+-- "C20 takes ip*cosine + op*sine (caption of 6.2b)": the printed op is minus the out-of-phase amplitude of the band rules
 unfoldable pub inModel : Band → LoveModel → ℤ → ℤ → BandLine
 inModel Diurnal Elastic a b = record { band = Diurnal; ip = inCounts a; op = pos 0 }
 inModel Diurnal Anelastic a b = record { band = Diurnal; ip = inCounts b; op = pos 0 }
 inModel LongPeriod Elastic a b = record { band = LongPeriod; ip = pos 0; op = pos 0 }
-inModel LongPeriod Anelastic a b = record { band = LongPeriod; ip = inCounts a; op = inCounts b }
+inModel LongPeriod Anelastic a b = record { band = LongPeriod; ip = inCounts a; op = negℤ (inCounts b) }
 inModel Semidiurnal love a b = record { band = Semidiurnal; ip = inCounts a; op = pos 0 }
 
 unfoldable pub printedLine : LoveModel → ℕ → BandLine

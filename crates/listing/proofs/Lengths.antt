@@ -11,8 +11,8 @@ use lib.ListN.{length, drop, length-append}
 use lib.Seq.{sets-eq}
 use Rattle.arguments.specs.declared.Phases.{Phases}
 use Rattle.choices.specs.declared.LoveModel.the-variants.{Elastic, Anelastic}
-use Rattle.step_two.specs.declared.Corrections.{Corrections}
-use Rattle.step_two.specs.Inner.{Small}
+use Rattle.bands.specs.declared.Corrections.{Corrections}
+use Rattle.bands.specs.Inner.{Small}
 use Rattle.step_two.proofs.Sizes.{corrections-small}
 use Rattle.text.specs.Inner.{Put}
 use Rattle.text.specs.Text.{ascii}

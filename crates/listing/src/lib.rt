@@ -5,8 +5,8 @@ ghost use lib.ListN.{length};
 ghost use Rattle.text.specs.Inner.{Put};
 ghost use Rattle.listing.specs.Listing.{phasesOf, columns, modelText, modelsText, Listed};
 use arguments::Phases;
+use bands::Corrections;
 use choices::LoveModel;
-use step_two::Corrections;
 
 // Puts a space before each count, and the count. With a sign and 19 digits these are 21 bytes.
 fn put_columns(out: &mut [u8], at: usize, counts: &[i64]) -> usize

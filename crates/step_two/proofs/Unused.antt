@@ -1,16 +1,16 @@
 -- A line that a Love model has no amplitudes for gives nothing, whatever its wave: so the waves kept of the lines used give the whole sums.
-use borrow.Author.Tests.{ltb-false, leb-false, lt-ltb, le-ltb}
+use borrow.Author.Tests.{leb-false, lt-ltb}
 use mathlib.Core.Bool.{Bool, true, false, cond, _||_}
 use mathlib.Core.List.{List, [], _∷_}
-use mathlib.Core.Path.{_≡_, refl, sym, ap, _∙_}
-use Prim.Native.Nat.{ℕ, zero, suc, _≤_, _<_}
+use mathlib.Core.Path.{_≡_, refl, sym, _∙_}
+use Prim.Native.Nat.{ℕ, zero, suc, _<_}
 use native.Mathlib.Omega.{arith}
 use lib.Dec.{ltb, leb}
 use lib.IntN.{ℤ, pos, _+ℤ_, _*ℤ_}
 use Rattle.arguments.specs.declared.Phases.{Phases}
 use Rattle.bands.specs.declared.Band.the-variants.{LongPeriod}
 use Rattle.bands.specs.declared.Line.{Line}
-use Rattle.bands.specs.Bands.{Coefficient, C20, C21, S21, C22, S22, ofBand, ofLongPeriod, term}
+use Rattle.bands.specs.Bands.{Coefficient, C20, C21, S21, C22, S22, ofBand, ofLongPeriod, term, sumOf}
 use Rattle.choices.specs.declared.LoveModel.{LoveModel}
 use Rattle.choices.specs.declared.LoveModel.the-variants.{Elastic, Anelastic}
 use Rattle.hour.specs.Inner.{isUsed, kept, Waved}
@@ -18,7 +18,6 @@ use Rattle.lines.specs.Lines.{bandAt, inModel, linePhase, printedLine}
 use Rattle.wave.specs.Wave.{sin, cos}
 use Rattle.whole.specs.Sum.{sumTo}
 use Rattle.whole.proofs.Ring.{equal, !, #, _⊕_, _⊗_}
-use Rattle.step_two.specs.StepTwo.{sumOf}
 
 -- sums of equal terms
 sum-same : (f g : ℕ → ℤ) (n : ℕ) → ((i : ℕ) → i < n → f i ≡ g i) → sumTo f n ≡ sumTo g n

@@ -1,2 +1,1 @@
 pub mod StepTwo
-pub mod Inner

@@ -1,21 +1,13 @@
 // Step two of the solid tide (001, Tables 6.2; document 01, "Step two"): what the printed lines add to degree two.
 ghost use mathlib.Core.Path.{_≡_};
+ghost use Rattle.bands.specs.Inner.{sumsOf, Bounded};
 ghost use Rattle.hour.specs.Inner.{kept};
 ghost use Rattle.lines.specs.Lines.{printedLine};
 ghost use Rattle.step_two.specs.StepTwo.{corrections};
-ghost use Rattle.step_two.specs.Inner.{sumsOf, roundedOf, Bounded};
 use arguments::Phases;
+use bands::Corrections;
 use bands::Sums;
 use choices::LoveModel;
-
-// The five corrections, in counts.
-pub struct Corrections {
-    pub c20: i64,
-    pub c21: i64,
-    pub s21: i64,
-    pub c22: i64,
-    pub s22: i64,
-}
 
 // The five sums of the printed lines over given waves.
 pub fn sums_of(love: LoveModel, cosines: &[i32; 49], sines: &[i32; 49]) -> Sums
@@ -40,20 +32,6 @@ pub fn sums_of(love: LoveModel, cosines: &[i32; 49], sines: &[i32; 49]) -> Sums
     sums
 }
 
-// Each correction is the nearest of its sum.
-pub fn rounded_of(sums: Sums) -> Corrections
-    requires { ⌜ Bounded sums ⌝ }
-    ensures { λ r. ⌜ r ≡ roundedOf sums ⌝ }
-{
-    Corrections {
-        c20: whole::nearest_of(sums.c20, 1073741824),
-        c21: whole::nearest_of(sums.c21, 1073741824),
-        s21: whole::nearest_of(sums.s21, 1073741824),
-        c22: whole::nearest_of(sums.c22, 1073741824),
-        s22: whole::nearest_of(sums.s22, 1073741824),
-    }
-}
-
 // Given: six phases and the Love model.
 // Answered: the corrections of C20, C21, S21, C22 and S22, each the nearest of one whole sum.
 pub fn corrections_of(phases: Phases, love: LoveModel) -> Corrections
@@ -62,5 +40,5 @@ pub fn corrections_of(phases: Phases, love: LoveModel) -> Corrections
     let mut cosines = [0i32; 49];
     let mut sines = [0i32; 49];
     hour::fill_waves(phases, love, &mut cosines, &mut sines);
-    rounded_of(sums_of(love, &cosines, &sines))
+    bands::rounded_of(sums_of(love, &cosines, &sines))
 }

@@ -9,18 +9,19 @@ use lib.Dec.{lit<}
 use lib.IntN.{ℤ, pos, natAbs, _+ℤ_, _*ℤ_}
 use Rattle.arguments.specs.declared.Phases.{Phases}
 use Rattle.bands.specs.declared.Line.{Line}
-use Rattle.bands.specs.Bands.{Coefficient, C20, C21, S21, C22, S22, taken, term}
+use Rattle.bands.specs.Bands.{Coefficient, C20, C21, S21, C22, S22, taken, term, sumOf, correctionOf, correctionsOf}
 use Rattle.bands.proofs.Terms.{taken-size}
 use Rattle.choices.specs.declared.LoveModel.{LoveModel}
 use Rattle.lines.specs.Lines.{linePhase, printedLine}
 use Rattle.lines.proofs.Table.{printed-small}
 use Rattle.series.specs.Exact.{bottom, factorial, denominator, scale}
 use Rattle.series.proofs.Sums.{waves-near}
+use Rattle.wave.specs.Wave.{sin, cos}
 use Rattle.whole.specs.Sum.{weightTo}
 use Rattle.whole.proofs.Ring.{equal, !, #, _⊕_, _⊖_, _⊗_}
 use Rattle.whole.proofs.Running.{weight-size}
 use Rattle.whole.proofs.Within.{within-nearest}
-use Rattle.step_two.specs.StepTwo.{sumOf, correctionOf, correction, corrections}
+use Rattle.step_two.specs.StepTwo.{corrections}
 use Rattle.step_two_bound.specs.Exact.{partsOfACount, lessThanOneCount, amplitudes, byAmplitudes, LinesCloseToExact, exactSum, CloseToExact}
 
 -- what a coefficient takes of the lines is no more than they have
@@ -69,15 +70,15 @@ printed-weight love =
       weight-size (λ i. printedLine love i .op) 472000 49 (λ i l. printed-small love i .1),
     )
 
-printed-close : (phases : Phases) (love : LoveModel) (k : Coefficient) → lessThanOneCount (correction phases love k) (exactSum phases love k)
-unfolding correction
+printed-close : (phases : Phases) (love : LoveModel) (k : Coefficient)
+    → lessThanOneCount (correctionOf (printedLine love) (λ i. cos (linePhase phases i)) (λ i. sin (linePhase phases i)) 49 k) (exactSum phases love k)
 printed-close phases love k =
-    close (amplitudes (printedLine love) 49) (correction phases love k) (exactSum phases love k) (printed-weight love)
+    close (amplitudes (printedLine love) 49) _ (exactSum phases love k) (printed-weight love)
     (lines-close (printedLine love) (linePhase phases) 49 .each k)
 
 -- for all six phases and both models
 pub step-two-close : (phases : Phases) (love : LoveModel) → CloseToExact phases love
-unfolding corrections
+unfolding corrections correctionsOf
 step-two-close phases love = record {
   c20 = printed-close phases love C20;
   c21 = printed-close phases love C21;

@@ -4,12 +4,12 @@ use Prim.Native.Nat.{ℕ, _+_, _*_, _^_, _≤_, _<_}
 use lib.IntN.{ℤ, pos, natAbs, _-ℤ_, _*ℤ_}
 use Rattle.arguments.specs.declared.Phases.{Phases}
 use Rattle.bands.specs.declared.Line.{Line}
-use Rattle.bands.specs.Bands.{Coefficient, C20, C21, S21, C22, S22}
+use Rattle.bands.specs.Bands.{Coefficient, C20, C21, S21, C22, S22, sumOf, correctionOf}
 use Rattle.choices.specs.declared.LoveModel.{LoveModel}
 use Rattle.series.specs.Exact.{scale, exact-sin, exact-cos}
 use Rattle.wave.specs.Wave.{sin, cos}
 use Rattle.whole.specs.Sum.{weightTo}
-use Rattle.step_two.specs.StepTwo.{sumOf, correctionOf, printedSum, corrections}
+use Rattle.step_two.specs.StepTwo.{printedSum, corrections}
 
 -- an exact sum has so many parts to a count: its sines are in units of 2^-30, over `scale`
 unfoldable pub partsOfACount : ℕ

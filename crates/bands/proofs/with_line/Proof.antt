@@ -61,7 +61,7 @@ enum-told-2 : tie.Need-enum-told-2
 enum-told-2 c = search needs
 
 plus-wave-requires-3 : tie.Need-plus-wave-requires-3
-plus-wave-requires-3 c κs = search needs
+plus-wave-requires-3 c κs = search (needs, minus-held)
 
 enum-told-3 : tie.Need-enum-told-3
 enum-told-3 c = search needs
@@ -85,7 +85,7 @@ returns-2 c =
     let s = c .before .before .before .before .before .before in
     let p = s .pre in
     long-period (sums s) (s .args .line) (s .args .cosine) (s .args .sine) (c .before .before .enum-told2 .given .1)
-    (grown (read (sums s .c20) (p .c20-small)) (ip-read s) (cosine-read s) (op-read s) (sine-read s) (c .plus-wave3 .ensures))
+    (grown (read (sums s .c20) (p .c20-small)) (ip-read s) (cosine-read s) (minus-op-read s) (sine-read s) (c .plus-wave3 .ensures))
 
 returns-3 : tie.Need-returns-3
 returns-3 c =

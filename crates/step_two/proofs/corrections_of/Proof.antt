@@ -3,13 +3,13 @@ use borrow.Author.Needs.{needs}
 use mathlib.Core.Path.{_≡_, ap, _∙_}
 use Prim.Native.Nat.{_^_}
 use lib.IntN.{ℤ}
-use Rattle.bands.specs.Bands.{Coefficient, C20, C21, S21, C22, S22}
+use Rattle.bands.specs.Bands.{Coefficient, C20, C21, S21, C22, S22, sumOf, correctionOf, correctionsOf}
+use Rattle.bands.specs.Inner.{sumsOf, roundedOf}
 use Rattle.hour.specs.Inner.{kept}
 use Rattle.lines.specs.Lines.{linePhase, printedLine}
 use Rattle.wave.specs.Wave.{sin, cos}
 use Rattle.whole.specs.Nearest.{nearest}
-use Rattle.step_two.specs.StepTwo.{sumOf, correctionOf, correction, corrections}
-use Rattle.step_two.specs.Inner.{sumsOf, roundedOf}
+use Rattle.step_two.specs.StepTwo.{corrections}
 use Rattle.step_two.proofs.Unused.{waved-sum}
 use Rattle.step_two.proofs.corrections_of.Statement.{statement}
 use Rattle.step_two.proofs.corrections_of.Tie as tie
@@ -18,7 +18,7 @@ rounded-of-requires : tie.Need-rounded-of-requires
 rounded-of-requires c κs = c .sums-of .ensures .1
 
 returns : tie.Need-returns
-unfolding corrections correction correctionOf roundedOf sumsOf
+unfolding corrections correctionsOf correctionOf roundedOf sumsOf
 returns c =
     let a = c .before .before .before .before .before .before .before .args in
     let w = c .before .before .before .before .fill-waves in

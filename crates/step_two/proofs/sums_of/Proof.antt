@@ -4,13 +4,13 @@ use mathlib.Core.Path.{_≡_, refl, ap, _∙_}
 use Prim.Native.Nat.{ℕ, _-_, _*_, _^_, _≤_}
 use native.Mathlib.Omega.{arith}
 use lib.IntN.{ℤ, natAbs}
-use Rattle.bands.specs.Bands.{Coefficient}
+use Rattle.bands.specs.Bands.{Coefficient, sumOf}
+use Rattle.bands.specs.Inner.{sumsOf}
+use Rattle.bands.proofs.Sizes.{sum-grows, bounded, line-room, line-added}
 use Rattle.hour.specs.Inner.{kept}
 use Rattle.lines.specs.Lines.{printedLine}
 use Rattle.whole.specs.Sum.{sumTo}
-use Rattle.step_two.specs.StepTwo.{sumOf}
-use Rattle.step_two.specs.Inner.{sumsOf}
-use Rattle.step_two.proofs.Sizes.{sum-grows, bounded, line-room, line-added, wave-small, wave-fits, wave-read}
+use Rattle.step_two.proofs.Sizes.{printed-light, wave-small, wave-fits, wave-read}
 use Rattle.step_two.proofs.sums_of.Statement.{statement}
 use Rattle.step_two.proofs.sums_of.Tie as tie
 
@@ -18,7 +18,7 @@ abbrev Inv-loop : tie.InvT-loop
 Inv-loop love cosines sines first second sums₀ i₀ sums i =
     (i ≤ 49)
     × (sums ≡ sumsOf (printedLine love) (kept cosines) (kept sines) i)
-    × ((k : Coefficient) → natAbs (sumOf (printedLine love) (kept cosines) (kept sines) i k) ≤ i * 2 ^ 51)
+    × ((k : Coefficient) → natAbs (sumOf (printedLine love) (kept cosines) (kept sines) i k) ≤ i * (472000 * 2 ^ 32))
 
 abbrev μ-loop : tie.MeasureT-loop
 μ-loop love cosines sines first second sums₀ i₀ sums i = 49 - i
@@ -66,8 +66,8 @@ cast-with-line-2 c = wave-fits (S c (i c)) (c .with-line-arg2 .given)
 with-line-requires : tie.Need-with-line-requires Inv-loop μ-loop
 with-line-requires c κs =
     let l = head c .loop in
-    line-room (start c .args .love) (C c) (S c) (l .i) (l .inv .0) (l .inv .1) (l .inv .2)
-    (c .before .before .printed-line .ensures) (wave-read (C c (i c)) (c .before .with-line-arg .given)) (wave-read (S c (i c)) (c .with-line-arg2 .given)) (cosine-small c) (sine-small c)
+    line-room (printedLine (start c .args .love)) (C c) (S c) 472000 (l .i) (omega arith) (omega (arith, l .inv .0)) (l .inv .1) (l .inv .2)
+    (c .before .before .printed-line .ensures) (wave-read (C c (i c)) (c .before .with-line-arg .given)) (wave-read (S c (i c)) (c .with-line-arg2 .given)) (printed-light (start c .args .love) (i c)) (cosine-small c) (sine-small c)
 
 loop-again : tie.Need-loop-again Inv-loop μ-loop
 loop-again c =
@@ -75,9 +75,9 @@ loop-again c =
     let l = head a .loop in
     let love = start a .args .love in (
       omega arith,
-      line-added love (C a) (S a) (l .i) (l .inv .0) (l .inv .1) (l .inv .2)
+      line-added (printedLine love) (C a) (S a) 472000 (l .i) (omega arith) (omega (arith, l .inv .0)) (l .inv .1) (l .inv .2)
           (a .before .before .printed-line .ensures) (wave-read (C a (i a)) (a .before .with-line-arg .given)) (wave-read (S a (i a)) (a .with-line-arg2 .given)) (c .with-line .ensures),
-      λ k. sum-grows love (C a) (S a) (l .i) (cosine-small a) (sine-small a) k (l .inv .2 k),
+      λ k. sum-grows (printedLine love) (C a) (S a) 472000 (l .i) (printed-light love (l .i)) (cosine-small a) (sine-small a) k (l .inv .2 k),
     )
 
 returns : tie.Need-returns Inv-loop μ-loop
@@ -86,7 +86,7 @@ returns c =
     let a = c .before .before .before .before .before .args in
     let e : l .i ≡ 49 = omega arith in
     let W = sumsOf (printedLine (a .love)) (kept (a .cosines .now)) (kept (a .sines .now)) in
-    (l .inv .1 ∙ ap W e, bounded (a .love) (kept (a .cosines .now)) (kept (a .sines .now)) (l .i) (l .inv .0) (l .inv .1) (l .inv .2))
+    (l .inv .1 ∙ ap W e, bounded (printedLine (a .love)) (kept (a .cosines .now)) (kept (a .sines .now)) 472000 (l .i) (omega arith) (omega (arith, l .inv .0)) (l .inv .1) (l .inv .2))
 
 pub sums-of-spec : {M : Type 1} → statement M
 sums-of-spec =

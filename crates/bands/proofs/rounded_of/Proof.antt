@@ -1,5 +1,4 @@
 -- Each correction is the nearest of its sum.
-use borrow.Author.Needs.{needs}
 use mathlib.Core.Path.{_≡_, ap, _∙_}
 use Prim.Native.Nat.{_+_, _^_, _≤_, _<_}
 use native.Mathlib.Omega.{arith}
@@ -11,9 +10,9 @@ use mir.Facts.{toZ-ofZ}
 use Rattle.whole.specs.Nearest.{nearest}
 use Rattle.whole.proofs.Machine.{back}
 use Rattle.whole.proofs.Parts.{fits-abs}
-use Rattle.step_two.specs.Inner.{roundedOf}
-use Rattle.step_two.proofs.rounded_of.Statement.{statement}
-use Rattle.step_two.proofs.rounded_of.Tie as tie
+use Rattle.bands.specs.Inner.{roundedOf}
+use Rattle.bands.proofs.rounded_of.Statement.{statement}
+use Rattle.bands.proofs.rounded_of.Tie as tie
 
 -- a sum has room to be rounded
 asked : (x : ℤ) → natAbs x ≤ 2 ^ 62 → (0 < 2 ^ 30) × (natAbs (toZ w64 (ofZ w64 x)) + 2 ^ 30 < 2 ^ 63)
