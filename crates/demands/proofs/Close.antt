@@ -5,18 +5,26 @@ use Prim.Native.Nat.{ℕ}
 use native.Mathlib.Omega.{arith}
 use lib.IntN.{ℤ, _+ℤ_, _-ℤ_}
 use Rattle.arguments.specs.declared.Phases.{Phases}
+use Rattle.bands.specs.declared.Corrections.{Corrections}
+use Rattle.bands.specs.Bands.{Coefficient, C20, C21, S21, C22, S22}
 use Rattle.choices.specs.declared.Frame.{Frame}
 use Rattle.choices.specs.declared.LoveModel.{LoveModel}
 use Rattle.field.specs.Field.{fieldRefusal}
+use Rattle.own.specs.declared.OwnLine.{OwnLine}
+use Rattle.own.specs.Own.{ownCorrections}
+use Rattle.own_bound.specs.Exact.{withinThreeCounts, exactSum as ownSum}
+use Rattle.own_bound.proofs.Bound.{own-close}
+use Rattle.refusals.specs.Outcome.{Outcome}
 use Rattle.ocean_bound.specs.Exact.{atMostNineCounts}
 use Rattle.ocean_bound.proofs.Bound.{close-to-exact}
-use Rattle.step_two_bound.specs.Exact.{lessThanOneCount}
+use Rattle.step_two.specs.StepTwo.{corrections}
+use Rattle.step_two_bound.specs.Exact.{lessThanOneCount, exactSum as lineSum}
 use Rattle.step_two_bound.proofs.Bound.{step-two-close}
-use Rattle.surfgimlet.specs.Calls.{stepTwo, oceanRefusal, oceanTide}
+use Rattle.surfgimlet.specs.Calls.{stepTwo, ownLinesRefusal, ownLines, oceanRefusal, oceanTide}
 use Rattle.surfgimlet.proofs.OceanTide.{passing}
 use Rattle.whole.proofs.Ring.{equal, !, _⊕_, _⊖_}
-use Rattle.demands.specs.Demands.{at, gained, StepTwoClose, OceanClose}
-use Rattle.demands.proofs.StepTwo.{entries as step-two-entries}
+use Rattle.demands.specs.Demands.{at, gained, FiveEntries, FiveClose, OceanClose}
+use Rattle.demands.proofs.Five.{step-two as step-two-entries, own-lines as own-lines-entries, own-passed}
 use Rattle.demands.proofs.Ocean.{c-here, s-here}
 
 -- close in either sense, P
@@ -25,18 +33,27 @@ by-gain P before after k d exact e near =
     subst (λ (z : ℤ). P z exact)
     (sym (ap (λ (z : ℤ). z -ℤ at before k) e ∙ equal (! 0 ⊕ ! 1 ⊖ ! 0) (! 1) (at before k ∷ d ∷ []) (omega arith))) near
 
-pub step-two : (n : ℕ) (c s : List ℤ) (phases : Phases) (love : LoveModel) → fieldRefusal n c s ≡ 0 → StepTwoClose n c s phases love
+-- five entries, each gained by its correction
+module _ {near : ℤ → ℤ → Type 0} (c s : List ℤ) (o : Outcome) (d : Corrections) (exact : Coefficient → ℤ) (e : FiveEntries c s o d) where
+  five : near (d .c20) (exact C20) → near (d .c21) (exact C21) → near (d .s21) (exact S21) → near (d .c22) (exact C22) → near (d .s22) (exact S22) → FiveClose near c s o exact
+  five c20 c21 s21 c22 s22 = record {
+    c20 = by-gain near c (o .c) _ _ _ (e .c20) c20;
+    c21 = by-gain near c (o .c) _ _ _ (e .c21) c21;
+    s21 = by-gain near s (o .s) _ _ _ (e .s21) s21;
+    c22 = by-gain near c (o .c) _ _ _ (e .c22) c22;
+    s22 = by-gain near s (o .s) _ _ _ (e .s22) s22;
+  }
+
+pub step-two : (n : ℕ) (c s : List ℤ) (phases : Phases) (love : LoveModel) → fieldRefusal n c s ≡ 0 → FiveClose lessThanOneCount c s (stepTwo n c s phases love) (lineSum phases love)
 step-two n c s phases love passed =
-    let e = step-two-entries n c s phases love passed in
     let k = step-two-close phases love in
-    let o = stepTwo n c s phases love in
-    record {
-      c20 = by-gain lessThanOneCount c (o .c) _ _ _ (e .c20) (k .c20);
-      c21 = by-gain lessThanOneCount c (o .c) _ _ _ (e .c21) (k .c21);
-      s21 = by-gain lessThanOneCount s (o .s) _ _ _ (e .s21) (k .s21);
-      c22 = by-gain lessThanOneCount c (o .c) _ _ _ (e .c22) (k .c22);
-      s22 = by-gain lessThanOneCount s (o .s) _ _ _ (e .s22) (k .s22);
-    }
+    five c s (stepTwo n c s phases love) (corrections phases love) (lineSum phases love) (step-two-entries n c s phases love passed) (k .c20) (k .c21) (k .s21) (k .c22) (k .s22)
+
+pub own-lines : (n : ℕ) (c s : List ℤ) (lines : List OwnLine) (phases : Phases) → ownLinesRefusal n c s lines ≡ 0
+    → FiveClose withinThreeCounts c s (ownLines n c s lines phases) (ownSum phases lines)
+own-lines n c s lines phases passed =
+    let k = own-close phases lines (own-passed n c s lines passed) in
+    five c s (ownLines n c s lines phases) (ownCorrections phases lines) (ownSum phases lines) (own-lines-entries n c s lines phases passed) (k .c20) (k .c21) (k .s21) (k .c22) (k .s22)
 
 pub ocean-tide : (n : ℕ) (c s : List ℤ) (sheet : List ℕ) (phases : Phases) (frame : Frame) → oceanRefusal n c s sheet ≡ 0 → OceanClose n c s sheet phases frame
 ocean-tide n c s sheet phases frame e =

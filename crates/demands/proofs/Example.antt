@@ -1,14 +1,22 @@
--- The worked Moon and Sun on a field of zeros.
-use mathlib.Core.Path.{_≡_}
+-- The worked Moon and Sun, and four own lines, on a field of zeros.
+use mathlib.Core.Path.{_≡_, refl}
 use mathlib.Core.List.{List, [], _∷_}
 use lib.IntN.{ℤ, pos, negℤ}
+use Rattle.arguments.specs.declared.Phases.{Phases}
+use Rattle.arguments.specs.Phase.{modulo, phase}
+use Rattle.bands.specs.Bands.{ofDiurnal, ofLongPeriod, ofSemidiurnal, ofBand, term, sumOf, correctionOf, correctionsOf}
 use Rattle.choices.specs.declared.LoveModel.the-variants.{Anelastic}
 use Rattle.field.specs.Field.{size, shapedBy, place, everyInRange, fieldRefusal}
+use Rattle.own.specs.declared.OwnLine.{OwnLine}
+use Rattle.own.specs.Own.{multipliersOf, bandOf, lineOf, inRange, recordsRefusal, ownCorrections}
 use Rattle.refusals.specs.Outcome.{firstOf, unlessRefused}
 use Rattle.field.specs.Added.{corrected, added, addedAt}
 use Rattle.step_one.proofs.Worked.{moon, sun, moon-and-sun}
 use Rattle.step_one.specs.StepOne.{places}
-use Rattle.surfgimlet.specs.Calls.{stepOneRefusal, stepOne}
+use Rattle.wave.specs.Wave.{sin, cos, further, eighths, signed, part, folded, eighth-sine, eighth-cosine, steps, step, square, angle}
+use Rattle.whole.specs.Nearest.{nearest}
+use Rattle.whole.specs.Sum.{sumTo, allTo}
+use Rattle.surfgimlet.specs.Calls.{stepOneRefusal, stepOne, placesC, placesS, fiveCorrected, ownLinesRefusal, ownLines}
 
 abbrev zeros : List ℤ
 zeros = pos 0 ∷ pos 0 ∷ pos 0 ∷ pos 0 ∷ pos 0 ∷ pos 0 ∷ pos 0 ∷ pos 0 ∷ pos 0 ∷ pos 0 ∷ pos 0 ∷ pos 0 ∷ pos 0 ∷ pos 0 ∷ pos 0 ∷ []
@@ -29,3 +37,37 @@ pub on-a-field : stepOne 4 zeros zeros moon sun Anelastic ≡
     }
 unfolding stepOne stepOneRefusal firstOf unlessRefused fieldRefusal shapedBy size everyInRange places place addedAt added corrected
 on-a-field = rw (moon-and-sun Anelastic)
+
+-- own lines: one of each band, the diurnal one lent twice, at 0h on 2004-05-17; the second program's counts
+abbrev day : Phases
+day = record { tau = 327043742; s = 329517021; h = 656638906; p = 3117674196; np = 3812369497; ps = 3376471194 }
+
+abbrev monthly : OwnLine
+monthly = record { tau = pos 0; s = pos 2; h = pos 0; p = pos 0; np = pos 0; ps = pos 0; ip = pos 37; op = negℤ (pos 12) }
+
+abbrev daily : OwnLine
+daily = record { tau = pos 1; s = negℤ (pos 1); h = pos 0; p = pos 0; np = pos 0; ps = pos 0; ip = negℤ (pos 250); op = pos 31 }
+
+abbrev half-daily : OwnLine
+half-daily = record { tau = pos 2; s = negℤ (pos 1); h = pos 0; p = pos 1; np = pos 0; ps = pos 0; ip = pos 18; op = pos 45 }
+
+four-lines : ownCorrections day (monthly ∷ daily ∷ daily ∷ half-daily ∷ []) ≡ record { c20 = pos 3095; c21 = pos 6381; s21 = negℤ (pos 49977); c22 = pos 4839; s22 = pos 277 }
+unfolding ownCorrections modulo phase multipliersOf bandOf lineOf ofDiurnal ofLongPeriod ofSemidiurnal ofBand term sumOf correctionOf correctionsOf sin cos further eighths signed part folded eighth-sine eighth-cosine steps step square angle nearest sumTo
+four-lines = refl
+
+pub own-lines-on-a-field : ownLines 4 zeros zeros (monthly ∷ daily ∷ daily ∷ half-daily ∷ []) day ≡
+    record {
+      number = 0;
+      c =
+          pos 0 ∷ pos 0 ∷ pos 0
+          ∷ pos 3095 ∷ pos 6381 ∷ pos 4839
+          ∷ pos 0 ∷ pos 0 ∷ pos 0 ∷ pos 0
+          ∷ pos 0 ∷ pos 0 ∷ pos 0 ∷ pos 0 ∷ pos 0 ∷ [];
+      s =
+          pos 0 ∷ pos 0 ∷ pos 0
+          ∷ pos 0 ∷ negℤ (pos 49977) ∷ pos 277
+          ∷ pos 0 ∷ pos 0 ∷ pos 0 ∷ pos 0
+          ∷ pos 0 ∷ pos 0 ∷ pos 0 ∷ pos 0 ∷ pos 0 ∷ [];
+    }
+unfolding ownLines ownLinesRefusal recordsRefusal inRange allTo fiveCorrected firstOf unlessRefused fieldRefusal shapedBy size everyInRange placesC placesS place addedAt added corrected
+own-lines-on-a-field = rw four-lines

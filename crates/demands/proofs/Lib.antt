@@ -1,5 +1,5 @@
 pub mod StepOne
-pub mod StepTwo
+pub mod Five
 pub mod Ocean
 pub mod Close
 pub mod Numbers

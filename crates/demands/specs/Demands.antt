@@ -8,7 +8,8 @@ use lib.IntN.{ℤ, pos, _+ℤ_, _-ℤ_}
 use lib.ListN.{getD}
 use Rattle.arguments.specs.declared.Multipliers.{Multipliers}
 use Rattle.arguments.specs.declared.Phases.{Phases}
-use Rattle.bands.specs.Bands.{C20, C21, S21, C22, S22}
+use Rattle.bands.specs.declared.Corrections.{Corrections}
+use Rattle.bands.specs.Bands.{Coefficient, C20, C21, S21, C22, S22}
 use Rattle.bodies.specs.declared.Body.{Body}
 use Rattle.choices.specs.declared.Frame.{Frame}
 use Rattle.choices.specs.declared.LoveModel.{LoveModel}
@@ -17,6 +18,9 @@ use Rattle.doodson.specs.Doodson.{readDoodson, writeDoodson}
 use Rattle.field.specs.Field.{place, fieldRefusal}
 use Rattle.ocean.specs.Ocean.{dC, dS}
 use Rattle.ocean_bound.specs.Exact.{atMostNineCounts, exactSum as oceanSum}
+use Rattle.own.specs.declared.OwnLine.{OwnLine}
+use Rattle.own.specs.Own.{ownCorrections}
+use Rattle.own_bound.specs.Exact.{withinThreeCounts, exactSum as ownSum}
 use Rattle.permanent.specs.Systems.{movedC20}
 use Rattle.places.specs.Places.{indexOf}
 use Rattle.refusals.specs.Outcome.{Outcome}
@@ -25,7 +29,7 @@ use Rattle.sheet.specs.Sheet.{placeCount, cCos, sCos, cSin, sSin}
 use Rattle.step_one.specs.StepOne.{Counts, places, corrections as bodyCorrections}
 use Rattle.step_two.specs.StepTwo.{corrections as lineCorrections}
 use Rattle.step_two_bound.specs.Exact.{lessThanOneCount, exactSum as lineSum}
-use Rattle.surfgimlet.specs.Calls.{stepOneRefusal, stepOne, stepTwo, oceanRefusal, oceanTide}
+use Rattle.surfgimlet.specs.Calls.{stepOneRefusal, stepOne, stepTwo, ownLinesRefusal, ownLines, oceanRefusal, oceanTide}
 
 -- the entry at k
 abbrev pub at : List ℤ → ℕ → ℤ
@@ -44,6 +48,7 @@ pub record Refuses (o : Outcome) (number : ℕ) (c s : List ℤ) : Type 0 where
 pub record First : Type 0 where
   pub step-one : (n : ℕ) (c s : List ℤ) (moon sun : Body) (love : LoveModel) → Refuses (stepOne n c s moon sun love) (stepOneRefusal n c s moon sun love) c s
   pub step-two : (n : ℕ) (c s : List ℤ) (phases : Phases) (love : LoveModel) → Refuses (stepTwo n c s phases love) (fieldRefusal n c s) c s
+  pub own-lines : (n : ℕ) (c s : List ℤ) (lines : List OwnLine) (phases : Phases) → Refuses (ownLines n c s lines phases) (ownLinesRefusal n c s lines) c s
   pub ocean-tide : (n : ℕ) (c s : List ℤ) (sheet : List ℕ) (phases : Phases) (frame : Frame) → Refuses (oceanTide n c s sheet phases frame) (oceanRefusal n c s sheet) c s
 
 -- "The solid-tide corrections follow Chapter 6 .., and the ocean ones the synthesis rule ..": each entry that a rule names gains its correction.
@@ -56,14 +61,15 @@ pub record StepOneEntries (n : ℕ) (c s : List ℤ) (moon sun : Body) (love : L
       → (at (stepOne n c s moon sun love .c) k ≡ at c k) × (at (stepOne n c s moon sun love .s) k ≡ at s k)
   pub order-zero : (d : ℕ) → at (stepOne n c s moon sun love .s) (place d 0) ≡ at s (place d 0)
 
-pub record StepTwoEntries (n : ℕ) (c s : List ℤ) (phases : Phases) (love : LoveModel) : Type 0 where
-  pub c20 : at (stepTwo n c s phases love .c) (place 2 0) ≡ at c (place 2 0) +ℤ lineCorrections phases love .c20
-  pub c21 : at (stepTwo n c s phases love .c) (place 2 1) ≡ at c (place 2 1) +ℤ lineCorrections phases love .c21
-  pub s21 : at (stepTwo n c s phases love .s) (place 2 1) ≡ at s (place 2 1) +ℤ lineCorrections phases love .s21
-  pub c22 : at (stepTwo n c s phases love .c) (place 2 2) ≡ at c (place 2 2) +ℤ lineCorrections phases love .c22
-  pub s22 : at (stepTwo n c s phases love .s) (place 2 2) ≡ at s (place 2 2) +ℤ lineCorrections phases love .s22
-  pub c-elsewhere : (k : ℕ) → (k < place 2 0) ⊎ (place 3 0 ≤ k) → at (stepTwo n c s phases love .c) k ≡ at c k
-  pub s-elsewhere : (k : ℕ) → (k < place 2 1) ⊎ (place 3 0 ≤ k) → at (stepTwo n c s phases love .s) k ≡ at s k
+-- five entries gain their corrections, of step two or of own lines
+pub record FiveEntries (c s : List ℤ) (o : Outcome) (d : Corrections) : Type 0 where
+  pub c20 : at (o .c) (place 2 0) ≡ at c (place 2 0) +ℤ d .c20
+  pub c21 : at (o .c) (place 2 1) ≡ at c (place 2 1) +ℤ d .c21
+  pub s21 : at (o .s) (place 2 1) ≡ at s (place 2 1) +ℤ d .s21
+  pub c22 : at (o .c) (place 2 2) ≡ at c (place 2 2) +ℤ d .c22
+  pub s22 : at (o .s) (place 2 2) ≡ at s (place 2 2) +ℤ d .s22
+  pub c-elsewhere : (k : ℕ) → (k < place 2 0) ⊎ (place 3 0 ≤ k) → at (o .c) k ≡ at c k
+  pub s-elsewhere : (k : ℕ) → (k < place 2 1) ⊎ (place 3 0 ≤ k) → at (o .s) k ≡ at s k
 
 pub record OceanEntries (n : ℕ) (c s : List ℤ) (sheet : List ℕ) (phases : Phases) (frame : Frame) : Type 0 where
   pub c-here : (j : ℕ) → j < placeCount sheet → at (oceanTide n c s sheet phases frame .c) (indexOf sheet j) ≡ at c (indexOf sheet j) +ℤ dC sheet phases frame j
@@ -74,7 +80,10 @@ pub record OceanEntries (n : ℕ) (c s : List ℤ) (sheet : List ℕ) (phases : 
 
 pub record Second : Type 0 where
   pub step-one : (n : ℕ) (c s : List ℤ) (moon sun : Body) (love : LoveModel) → StepOneEntries n c s moon sun love
-  pub step-two : (n : ℕ) (c s : List ℤ) (phases : Phases) (love : LoveModel) → fieldRefusal n c s ≡ 0 → StepTwoEntries n c s phases love
+  pub step-two : (n : ℕ) (c s : List ℤ) (phases : Phases) (love : LoveModel) → fieldRefusal n c s ≡ 0
+      → FiveEntries c s (stepTwo n c s phases love) (lineCorrections phases love)
+  pub own-lines : (n : ℕ) (c s : List ℤ) (lines : List OwnLine) (phases : Phases) → ownLinesRefusal n c s lines ≡ 0
+      → FiveEntries c s (ownLines n c s lines phases) (ownCorrections phases lines)
   pub ocean-tide : (n : ℕ) (c s : List ℤ) (sheet : List ℕ) (phases : Phases) (frame : Frame) → oceanRefusal n c s sheet ≡ 0 → OceanEntries n c s sheet phases frame
   -- "Doodson numbers turn into multipliers and back without loss"
   pub doodson-back : (number : ℕ) (n : Multipliers) → readDoodson number ≡ accepted n → writeDoodson n ≡ accepted number
@@ -84,19 +93,23 @@ pub record Second : Type 0 where
 
 -- "For any six phases, and any sheet and field that are accepted, each ocean correction is at most nine counts from the exact sum, and each second-step solid
 -- correction less than one count", of what each entry gained
-pub record StepTwoClose (n : ℕ) (c s : List ℤ) (phases : Phases) (love : LoveModel) : Type 0 where
-  pub c20 : lessThanOneCount (gained c (stepTwo n c s phases love .c) (place 2 0)) (lineSum phases love C20)
-  pub c21 : lessThanOneCount (gained c (stepTwo n c s phases love .c) (place 2 1)) (lineSum phases love C21)
-  pub s21 : lessThanOneCount (gained s (stepTwo n c s phases love .s) (place 2 1)) (lineSum phases love S21)
-  pub c22 : lessThanOneCount (gained c (stepTwo n c s phases love .c) (place 2 2)) (lineSum phases love C22)
-  pub s22 : lessThanOneCount (gained s (stepTwo n c s phases love .s) (place 2 2)) (lineSum phases love S22)
+pub record FiveClose (near : ℤ → ℤ → Type 0) (c s : List ℤ) (o : Outcome) (exact : Coefficient → ℤ) : Type 0 where
+  pub c20 : near (gained c (o .c) (place 2 0)) (exact C20)
+  pub c21 : near (gained c (o .c) (place 2 1)) (exact C21)
+  pub s21 : near (gained s (o .s) (place 2 1)) (exact S21)
+  pub c22 : near (gained c (o .c) (place 2 2)) (exact C22)
+  pub s22 : near (gained s (o .s) (place 2 2)) (exact S22)
 
 pub record OceanClose (n : ℕ) (c s : List ℤ) (sheet : List ℕ) (phases : Phases) (frame : Frame) : Type 0 where
   pub in-c : (j : ℕ) → j < placeCount sheet → atMostNineCounts (gained c (oceanTide n c s sheet phases frame .c) (indexOf sheet j)) (oceanSum sheet phases frame cCos cSin j)
   pub in-s : (j : ℕ) → j < placeCount sheet → atMostNineCounts (gained s (oceanTide n c s sheet phases frame .s) (indexOf sheet j)) (oceanSum sheet phases frame sCos sSin j)
 
 pub record Third : Type 0 where
-  pub step-two : (n : ℕ) (c s : List ℤ) (phases : Phases) (love : LoveModel) → fieldRefusal n c s ≡ 0 → StepTwoClose n c s phases love
+  pub step-two : (n : ℕ) (c s : List ℤ) (phases : Phases) (love : LoveModel) → fieldRefusal n c s ≡ 0
+      → FiveClose lessThanOneCount c s (stepTwo n c s phases love) (lineSum phases love)
+  -- T-01: "Each resulting correction must lie within three counts of its exact sum"
+  pub own-lines : (n : ℕ) (c s : List ℤ) (lines : List OwnLine) (phases : Phases) → ownLinesRefusal n c s lines ≡ 0
+      → FiveClose withinThreeCounts c s (ownLines n c s lines phases) (ownSum phases lines)
   pub ocean-tide : (n : ℕ) (c s : List ℤ) (sheet : List ℕ) (phases : Phases) (frame : Frame) → oceanRefusal n c s sheet ≡ 0 → OceanClose n c s sheet phases frame
 
 pub record Demands : Type 0 where

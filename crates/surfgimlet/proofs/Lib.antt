@@ -1,3 +1,4 @@
 pub mod StepOne
-pub mod StepTwo
+pub mod Five
 pub mod OceanTide
+pub mod OwnLines

@@ -9,6 +9,8 @@ use Rattle.choices.specs.declared.LoveModel.{LoveModel}
 use Rattle.field.specs.Added.{added, addedAt}
 use Rattle.field.specs.Field.{place, fieldRefusal}
 use Rattle.ocean.specs.Ocean.{dC, dS}
+use Rattle.own.specs.declared.OwnLine.{OwnLine}
+use Rattle.own.specs.Own.{recordsRefusal, ownCorrections}
 use Rattle.places.specs.Places.{indexOf}
 use Rattle.refusals.specs.Outcome.{Outcome, firstOf, unlessRefused}
 use Rattle.refusals.specs.Told.{Told, toldNumber}
@@ -16,7 +18,7 @@ use Rattle.refusals.specs.Told.Told.{accepted, refused}
 use Rattle.sheet.specs.Accepted.{sheetRefusal}
 use Rattle.sheet.specs.Sheet.{placeCount}
 use Rattle.step_one.specs.StepOne.{Counts, places, corrections as bodyCorrections}
-use Rattle.step_two.specs.declared.Corrections.{Corrections}
+use Rattle.bands.specs.declared.Corrections.{Corrections}
 use Rattle.step_two.specs.StepTwo.{corrections as lineCorrections}
 
 -- ---- step one: refusals 1, 2, then the Moon's 3, 4, 5, the Sun's, and 6
@@ -49,10 +51,19 @@ unfoldable pub placesS : List ℕ
 unfolding place
 placesS = place 2 1 ∷ place 2 2 ∷ []
 
+-- five entries corrected, unless a number refuses the call
+unfoldable pub fiveCorrected : ℕ → List ℤ → List ℤ → Corrections → Outcome
+fiveCorrected number c s d = unlessRefused number c s (addedAt placesC (forC d) c) (addedAt placesS (forS d) s)
+
 unfoldable pub stepTwo : ℕ → List ℤ → List ℤ → Phases → LoveModel → Outcome
-stepTwo n c s phases love =
-    let d = lineCorrections phases love in
-    unlessRefused (fieldRefusal n c s) c s (addedAt placesC (forC d) c) (addedAt placesS (forS d) s)
+stepTwo n c s phases love = fiveCorrected (fieldRefusal n c s) c s (lineCorrections phases love)
+
+-- ---- own lines (02, T-01): refusals 1, 2, then 12, 13
+unfoldable pub ownLinesRefusal : ℕ → List ℤ → List ℤ → List OwnLine → ℕ
+ownLinesRefusal n c s lines = firstOf (fieldRefusal n c s) (recordsRefusal lines)
+
+unfoldable pub ownLines : ℕ → List ℤ → List ℤ → List OwnLine → Phases → Outcome
+ownLines n c s lines phases = fiveCorrected (ownLinesRefusal n c s lines) c s (ownCorrections phases lines)
 
 -- ---- ocean tide: refusals 1, 2, then the sheet's 7, 8, 9
 unfoldable pub oceanRefusal : ℕ → List ℤ → List ℤ → List ℕ → ℕ

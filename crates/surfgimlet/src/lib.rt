@@ -6,10 +6,15 @@ ghost use Rattle.doodson.specs.Doodson.{readDoodson, writeDoodson, tellsRead, t
 ghost use Rattle.lines.specs.Lines.{findLine, tells as tellsSought};
 ghost use Rattle.permanent.specs.Systems.{movedC20, tells as tellsMoved};
 ghost use Rattle.refusals.specs.Numbers.{answerNumber};
-ghost use Rattle.refusals.specs.Outcome.{Gives};
-ghost use Rattle.surfgimlet.specs.Calls.{stepOne, stepTwo, oceanTide};
+ghost use Rattle.refusals.specs.Outcome.{Gives, firstOf};
+ghost use Rattle.bands.specs.Inner.{Bounded, roundedOf};
+ghost use Rattle.field.specs.Added.{addedAt};
+ghost use Rattle.field.specs.Field.{fieldRefusal};
+ghost use Rattle.surfgimlet.specs.Calls.{forC, forS, placesC, placesS, fiveCorrected, stepOne, stepTwo, ownLines, oceanTide};
+ghost use Rattle.surfgimlet.specs.Inner.{FiveReady};
 use arguments::Multipliers;
 use arguments::Phases;
+use bands::Corrections;
 use bodies::Body;
 use choices::Frame;
 use choices::LoveModel;
@@ -17,6 +22,8 @@ use choices::PermanentSystem;
 use doodson::Read;
 use doodson::Written;
 use lines::Sought;
+use own::OwnLine;
+use own::Summed;
 use permanent::Moved;
 use refusals::Answer;
 
@@ -24,6 +31,30 @@ use refusals::Answer;
 const PLACE_20: usize = 3;
 
 const PLACE_21: usize = 4;
+
+// Adds the corrections of C20, C21, C22 and of S21, S22.
+fn add_five(c: &mut [i64], s: &mut [i64], d: Corrections)
+    requires { ⌜ FiveReady (now c) (now s) d ⌝ }
+    ensures { λ _. ⌜ (now (c .exit) ≡ addedAt placesC (forC d) (now (c .entry))) × (now (s .exit) ≡ addedAt placesS (forS d) (now (s .entry))) ⌝ }
+{
+    let in_c = [d.c20, d.c21, d.c22];
+    let in_s = [d.s21, d.s22];
+    field::add_run(c, PLACE_20, &in_c);
+    field::add_run(s, PLACE_21, &in_s);
+}
+
+// Adds the nearest of five sums, unless the field, or then the list that they are of, is refused.
+fn add_own(n: u32, c: &mut [i64], s: &mut [i64], sum: Summed) -> Answer
+    requires { ⌜ Bounded (sum .sums) ⌝ }
+    ensures { λ r. ⌜ Gives (fiveCorrected (firstOf (fieldRefusal n (now (c .entry)) (now (s .entry))) (answerNumber (sum .answer))) (now (c .entry)) (now (s .entry)) (roundedOf (sum .sums))) (answerNumber r) (now (c .exit)) (now (s .exit)) ⌝ }
+{
+    let listed = sum.answer;
+    let answer = refusals::first_of(field::tested(n, c, s), listed);
+    if let Answer::Accepted = answer {
+        add_five(c, s, bands::rounded_of(sum.sums));
+    }
+    answer
+}
 
 // Solid tide, step one (001, eqs. 1 to 7; document 01, "Step one").
 // Given: a field, the Moon, the Sun, the Love model.
@@ -60,13 +91,20 @@ pub fn step_two(n: u32, c: &mut [i64], s: &mut [i64], phases: Phases, love: Love
 {
     let answer = field::tested(n, c, s);
     if let Answer::Accepted = answer {
-        let d = step_two::corrections_of(phases, love);
-        let in_c = [d.c20, d.c21, d.c22];
-        let in_s = [d.s21, d.s22];
-        field::add_run(c, PLACE_20, &in_c);
-        field::add_run(s, PLACE_21, &in_s);
+        add_five(c, s, step_two::corrections_of(phases, love));
     }
     answer
+}
+
+// Tide lines of an operator's own (document 02, T-01).
+// Given: a field, a list of line records, six phases.
+// Done: the corrections of C20, C21, S21, C22 and S22 are added, each the nearest of its whole sum.
+// Refused: 1, 2, then 12, more than 64 records, then 13, a value of a record out of range.
+pub fn own_lines(n: u32, c: &mut [i64], s: &mut [i64], lines: &[OwnLine], phases: Phases) -> Answer
+    ensures { λ r. ⌜ Gives (ownLines n (now (c .entry)) (now (s .entry)) (now (lines .entry)) phases) (answerNumber r) (now (c .exit)) (now (s .exit)) ⌝ }
+{
+    let sum = own::sums_of(lines, phases);
+    add_own(n, c, s, sum)
 }
 
 // Ocean tide (002; document 01, "Model sheet and ocean tide").

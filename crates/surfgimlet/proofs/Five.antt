@@ -1,5 +1,5 @@
--- Step two's five counts as the two lists that the writer takes, and the places that they go to.
-use mathlib.Core.Path.{_≡_, refl}
+-- Five counts as the two lists that the writer takes, and the places that they go to.
+use mathlib.Core.Path.{_≡_, refl, ap, _∙_}
 use mathlib.Core.List.{List, [], _∷_}
 use Prim.Native.Nat.{ℕ, zero, suc, _+_, _^_, _≤_, _<_}
 use native.Mathlib.Omega.{arith}
@@ -9,12 +9,17 @@ use mir.Syntax.{w64}
 use mir.Facts.{toZ-ofZ}
 use mir.Val.{toZ, ofZ}
 use Rattle.field.specs.Added.{addedAt}
+use Rattle.field.specs.Field.{fieldRefusal}
 use Rattle.field.specs.Inner.{Small, addedFrom}
+use Rattle.field.proofs.Accepted.{accepted-field, degree-two}
 use Rattle.field.proofs.Added.{the-places, at-run}
-use Rattle.step_two.specs.declared.Corrections.{Corrections}
-use Rattle.step_two.specs.Inner.{Small as SmallCorrections}
+use Rattle.bands.specs.declared.Corrections.{Corrections}
+use Rattle.bands.specs.Inner.{Small as SmallCorrections}
+use Rattle.refusals.specs.Outcome.{Gives}
+use Rattle.refusals.proofs.Outcomes.{gives-new, gives-kept}
 use Rattle.whole.proofs.Parts.{fits-abs}
-use Rattle.surfgimlet.specs.Calls.{forC, forS, placesC, placesS}
+use Rattle.surfgimlet.specs.Calls.{forC, forS, placesC, placesS, fiveCorrected}
+use Rattle.surfgimlet.specs.Inner.{FiveReady}
 
 abbrev read : ℤ → ℤ
 read z = toZ w64 (ofZ w64 z)
@@ -64,3 +69,33 @@ added-c d l = at-run placesC (forC d) l 3 c-run refl
 pub added-s : (d : Corrections) (l : List ℤ) → addedFrom 4 (forS d) l ≡ addedAt placesS (forS d) l
 unfolding placesS
 added-s d l = at-run placesS (forS d) l 4 s-run refl
+
+-- a field that is not refused has room for them
+pub five-ready : (n : ℕ) (c s : List ℤ) (d : Corrections) → fieldRefusal n c s ≡ 0 → SmallCorrections d → FiveReady c s d
+five-ready n c s d passed small =
+    let a = accepted-field n c s passed in
+    record {
+      c-room = degree-two n c (a .least) (a .c-size);
+      s-room = degree-two n s (a .least) (a .s-size);
+      c-range = a .c-range;
+      s-range = a .s-range;
+      small = small;
+    }
+
+-- five entries corrected, or kept
+module _ {number k : ℕ} (c s : List ℤ) (told : k ≡ number) where
+  pub gives-five : {c′ s′ : List ℤ} {d e : Corrections} → number ≡ 0 → d ≡ e → (c′ ≡ addedAt placesC (forC d) c) × (s′ ≡ addedAt placesS (forS d) s) → Gives (fiveCorrected number c s e) k c′ s′
+  unfolding fiveCorrected
+  gives-five {c′} {s′} {d} {e} passed same lists =
+      let g = gives-new number c s (addedAt placesC (forC e) c) (addedAt placesS (forS e) s) passed in
+      record {
+        answer = told ∙ g .answer;
+        list-c = lists .0 ∙ ap (λ (d : Corrections). addedAt placesC (forC d) c) same ∙ g .list-c;
+        list-s = lists .1 ∙ ap (λ (d : Corrections). addedAt placesS (forS d) s) same ∙ g .list-s;
+      }
+
+  pub keeps-five : (e : Corrections) → (number ≡ 0 → ⊥) → Gives (fiveCorrected number c s e) k c s
+  unfolding fiveCorrected
+  keeps-five e refused =
+      let g = gives-kept number c s (addedAt placesC (forC e) c) (addedAt placesS (forS e) s) refused in
+      record { answer = told ∙ g .answer; list-c = g .list-c; list-s = g .list-s }

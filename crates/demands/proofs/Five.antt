@@ -1,4 +1,4 @@
--- Each entry after step two on a field that is not refused: five moved by their corrections, every other as before.
+-- Each entry after step two, or after own lines, where nothing is refused: five moved by their corrections, every other as before.
 use mathlib.Core.Path.{_≡_, ap, _∙_}
 use mathlib.Core.List.{List}
 use mathlib.Core.Logic.{_⊎_, inl, inr}
@@ -12,12 +12,15 @@ use Rattle.field.specs.Added.{addedAt}
 use Rattle.field.specs.Field.{place, fieldRefusal}
 use Rattle.field.proofs.Accepted.{accepted-field, degree-two}
 use Rattle.field.proofs.Added.{at-here, at-elsewhere, at-rises}
+use Rattle.own.specs.declared.OwnLine.{OwnLine}
+use Rattle.own.specs.Own.{recordsRefusal, ownCorrections}
 use Rattle.refusals.specs.Outcome.{unlessRefused}
-use Rattle.step_two.specs.declared.Corrections.{Corrections}
+use Rattle.refusals.proofs.Outcomes.{first-none}
+use Rattle.bands.specs.declared.Corrections.{Corrections}
 use Rattle.step_two.specs.StepTwo.{corrections}
-use Rattle.surfgimlet.specs.Calls.{forC, forS, placesC, placesS, stepTwo}
-use Rattle.surfgimlet.proofs.StepTwo.{c-run, s-run}
-use Rattle.demands.specs.Demands.{at, StepTwoEntries}
+use Rattle.surfgimlet.specs.Calls.{forC, forS, placesC, placesS, fiveCorrected, stepTwo, ownLinesRefusal, ownLines}
+use Rattle.surfgimlet.proofs.Five.{c-run, s-run}
+use Rattle.demands.specs.Demands.{at, FiveEntries}
 
 module _ (l : List ℤ) (d : Corrections) where
   c-entry : 5 < length l → (j : ℕ) → j < length placesC → at (addedAt placesC (forC d) l) (getD placesC j 0) ≡ at l (getD placesC j 0) +ℤ at (forC d) j
@@ -42,22 +45,20 @@ module _ (l : List ℤ) (d : Corrections) where
 read : {l m : List ℤ} → l ≡ m → (k : ℕ) → at l k ≡ at m k
 read e k = ap (λ (x : List ℤ). at x k) e
 
-module _ (n : ℕ) (c s : List ℤ) (phases : Phases) (love : LoveModel) (passed : fieldRefusal n c s ≡ 0) where
-  c-is : stepTwo n c s phases love .c ≡ addedAt placesC (forC (corrections phases love)) c
-  unfolding stepTwo unlessRefused
+module _ (number : ℕ) (c s : List ℤ) (d : Corrections) (passed : number ≡ 0) where
+  c-is : fiveCorrected number c s d .c ≡ addedAt placesC (forC d) c
+  unfolding fiveCorrected unlessRefused
   c-is = rw passed
 
-  s-is : stepTwo n c s phases love .s ≡ addedAt placesS (forS (corrections phases love)) s
-  unfolding stepTwo unlessRefused
+  s-is : fiveCorrected number c s d .s ≡ addedAt placesS (forS d) s
+  unfolding fiveCorrected unlessRefused
   s-is = rw passed
 
-  pub entries : StepTwoEntries n c s phases love
+  entries : 5 < length c → 5 < length s → FiveEntries c s (fiveCorrected number c s d) d
   unfolding placesC placesS place
-  entries =
-      let a = accepted-field n c s passed in
-      let d = corrections phases love in
-      let in-c = c-entry c d (degree-two n c (a .least) (a .c-size)) in
-      let in-s = s-entry s d (degree-two n s (a .least) (a .s-size)) in
+  entries long-c long-s =
+      let in-c = c-entry c d long-c in
+      let in-s = s-entry s d long-s in
       record {
         c20 = read c-is _ ∙ in-c 0 (omega arith);
         c21 = read c-is _ ∙ in-c 1 (omega arith);
@@ -67,3 +68,22 @@ module _ (n : ℕ) (c s : List ℤ) (phases : Phases) (love : LoveModel) (passed
         c-elsewhere = λ k h. read c-is k ∙ c-other c d k h;
         s-elsewhere = λ k h. read s-is k ∙ s-other s d k h;
       }
+
+-- of a field that is not refused
+on-field : (n number : ℕ) (c s : List ℤ) (d : Corrections) → fieldRefusal n c s ≡ 0 → number ≡ 0 → FiveEntries c s (fiveCorrected number c s d) d
+on-field n number c s d field passed =
+    let a = accepted-field n c s field in
+    entries number c s d passed (degree-two n c (a .least) (a .c-size)) (degree-two n s (a .least) (a .s-size))
+
+pub step-two : (n : ℕ) (c s : List ℤ) (phases : Phases) (love : LoveModel) → fieldRefusal n c s ≡ 0 → FiveEntries c s (stepTwo n c s phases love) (corrections phases love)
+unfolding stepTwo
+step-two n c s phases love passed = on-field n _ c s (corrections phases love) passed passed
+
+-- of an accepted call the list is accepted
+pub own-passed : (n : ℕ) (c s : List ℤ) (lines : List OwnLine) → ownLinesRefusal n c s lines ≡ 0 → recordsRefusal lines ≡ 0
+unfolding ownLinesRefusal
+own-passed n c s lines e = first-none (fieldRefusal n c s) (recordsRefusal lines) e .1
+
+pub own-lines : (n : ℕ) (c s : List ℤ) (lines : List OwnLine) (phases : Phases) → ownLinesRefusal n c s lines ≡ 0 → FiveEntries c s (ownLines n c s lines phases) (ownCorrections phases lines)
+unfolding ownLines ownLinesRefusal
+own-lines n c s lines phases passed = on-field n _ c s (ownCorrections phases lines) (first-none _ _ passed .0) passed
