@@ -5,10 +5,10 @@ module surfgimlet
     implicit none
     private
     public :: c_int32_t, c_int64_t, c_size_t, c_double, c_int8_t
-    public :: phases, body, phase, words
-    public :: version, step_one, step_two, ocean_tide, move_c20, multipliers_of, number_of, find_line
+    public :: phases, body, own_line, phase, words
+    public :: version, step_one, step_two, own_lines, ocean_tide, move_c20, multipliers_of, number_of, find_line
 
-    integer(c_int32_t), parameter, public :: header_version = 1000000
+    integer(c_int32_t), parameter, public :: header_version = 1001000
     integer(c_int32_t), parameter, public :: elastic = 0, anelastic = 1
     integer(c_int32_t), parameter, public :: centre_of_figure = 0, centre_of_mass = 1
     integer(c_int32_t), parameter, public :: tide_free = 0, zero_tide = 1, mean_tide = 2
@@ -23,6 +23,12 @@ module surfgimlet
     type, bind(c) :: body
         integer(c_int32_t) :: kind
         real(c_double) :: ratio, x, y, z, r
+    end type
+
+    ! six multipliers, and the amplitudes in phase and out of phase in tenths of 10^-12
+    type, bind(c) :: own_line
+        integer(c_int32_t) :: tau, s, h, p, np, ps
+        integer(c_int64_t) :: ip, op
     end type
 
     interface
@@ -44,6 +50,16 @@ module surfgimlet
             integer(c_int32_t), value :: n, love_model
             integer(c_int64_t), intent(inout) :: c(*), s(*)
             integer(c_size_t), value :: c_length, s_length
+            type(phases), value :: at
+        end function
+
+        integer(c_int32_t) function c_own_lines(n, c, c_length, s, s_length, lines, lines_length, at) &
+            bind(c, name="surfgimlet_own_lines")
+            import
+            integer(c_int32_t), value :: n
+            integer(c_int64_t), intent(inout) :: c(*), s(*)
+            integer(c_size_t), value :: c_length, s_length, lines_length
+            type(own_line), intent(in) :: lines(*)
             type(phases), value :: at
         end function
 
@@ -100,6 +116,14 @@ contains
         answer = c_step_two(n, c, size(c, kind=c_size_t), s, size(s, kind=c_size_t), at, love_model)
     end function
 
+    integer(c_int32_t) function own_lines(n, c, s, lines, at) result(answer)
+        integer(c_int32_t), intent(in) :: n
+        integer(c_int64_t), intent(inout), contiguous :: c(:), s(:)
+        type(own_line), intent(in), contiguous :: lines(:)
+        type(phases), intent(in) :: at
+        answer = c_own_lines(n, c, size(c, kind=c_size_t), s, size(s, kind=c_size_t), lines, size(lines, kind=c_size_t), at)
+    end function
+
     integer(c_int32_t) function ocean_tide(n, c, s, sheet, at, frame) result(answer)
         integer(c_int32_t), intent(in) :: n, frame
         integer(c_int64_t), intent(inout), contiguous :: c(:), s(:)
@@ -133,6 +157,8 @@ contains
         case (9); words = "the sheet has a place of degree above the field's"
         case (10); words = "the Doodson number is above 999,999, or none can write the multipliers"
         case (11); words = "no printed line has the Doodson number"
+        case (12); words = "the list of own lines has more than 64 records"
+        case (13); words = "an own line has a multiplier outside -13..13, a first one not 0, 1 or 2, or an amplitude beyond 100,000"
         case (100); words = "a choice, or a body's kind, is none of its numbers"
         case default; words = "no answer of this unit"
         end select

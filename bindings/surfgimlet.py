@@ -13,7 +13,7 @@ from array import array
 from collections import namedtuple
 from ctypes import POINTER, byref, c_double, c_int32, c_int64, c_size_t, c_uint8, c_uint32
 
-VERSION = 1000000
+VERSION = 1001000
 ELASTIC, ANELASTIC = 0, 1
 CENTRE_OF_FIGURE, CENTRE_OF_MASS = 0, 1
 TIDE_FREE, ZERO_TIDE, MEAN_TIDE = 0, 1, 2
@@ -32,6 +32,8 @@ WORDS = {
     9: "the sheet has a place of degree above the field's",
     10: "the Doodson number is above 999,999, or none can write the multipliers",
     11: "no printed line has the Doodson number",
+    12: "the list of own lines has more than 64 records",
+    13: "an own line has a multiplier outside -13..13, a first one not 0, 1 or 2, or an amplitude beyond 100,000",
     100: "a choice, or a body's kind, is none of its numbers",
 }
 
@@ -39,6 +41,8 @@ WORDS = {
 Phases = namedtuple('Phases', 'tau s h p np ps')
 # the mass in Earth masses; x, y, z and the distance r in metres, or x, y, z of length one
 Body = namedtuple('Body', 'kind ratio x y z r')
+# six multipliers, and the amplitudes in phase and out of phase in tenths of 10^-12
+OwnLine = namedtuple('OwnLine', 'tau s h p np ps ip op')
 Line = namedtuple('Line', 'index first second')
 
 
@@ -63,6 +67,10 @@ class _Body(ctypes.Structure):
     _fields_ = [('kind', c_uint32)] + [(name, c_double) for name in Body._fields[1:]]
 
 
+class _OwnLine(ctypes.Structure):
+    _fields_ = [(name, c_int32) for name in OwnLine._fields[:6]] + [(name, c_int64) for name in OwnLine._fields[6:]]
+
+
 def _library():
     beside = pathlib.Path(__file__).resolve().parents[2] / 'lib' / 'libsurfgimlet.so'
     library = ctypes.CDLL(os.environ.get('SURFGIMLET_LIBRARY') or str(beside))
@@ -71,6 +79,7 @@ def _library():
             ('version', []),
             ('step_one', lists + [_Body, _Body, c_uint32]),
             ('step_two', lists + [_Phases, c_uint32]),
+            ('own_lines', lists + [POINTER(_OwnLine), c_size_t, _Phases]),
             ('ocean_tide', lists + [POINTER(c_uint8), c_size_t, _Phases, c_uint32]),
             ('move_c20', [c_int64, c_uint32, c_uint32, c_uint32, POINTER(c_int64)]),
             ('multipliers_of', [c_uint32, POINTER(c_int32)]),
@@ -104,6 +113,13 @@ def _body(body):
     return _Body(_u32(body[0]), *body[1:])
 
 
+def _own_line(line):
+    *multipliers, ip, op = line
+    if len(multipliers) != 6:
+        raise ValueError('six multipliers and two amplitudes are wanted')
+    return _OwnLine(*array('i', multipliers), *array('q', (ip, op)))
+
+
 def _over_field(call, n, c, s, *given):
     if c is s:
         raise ValueError('C and S are one list')
@@ -125,6 +141,12 @@ def step_one(n, c, s, moon, sun, love_model):
 
 def step_two(n, c, s, phases, love_model):
     _over_field(_unit.surfgimlet_step_two, n, c, s, _phases(phases), _u32(love_model))
+
+
+def own_lines(n, c, s, lines, phases):
+    """The lines are OwnLines, or tuples of eight."""
+    given = [_own_line(line) for line in lines]
+    _over_field(_unit.surfgimlet_own_lines, n, c, s, (_OwnLine * len(given))(*given), len(given), _phases(phases))
 
 
 def ocean_tide(n, c, s, sheet, phases, frame):

@@ -28,7 +28,7 @@
 #include <stdint.h>
 
 /* major * 1,000,000 + minor * 1,000 + patch; surfgimlet_version answers that of the library. */
-#define SURFGIMLET_VERSION 1000000
+#define SURFGIMLET_VERSION 1001000
 
 /* Where the compiler can, it warns of an answer that is not used. */
 #if defined(__cplusplus) && __cplusplus >= 201703L
@@ -52,6 +52,8 @@
 #define SURFGIMLET_SHEET_DEGREE 9u
 #define SURFGIMLET_NOT_DOODSON 10u
 #define SURFGIMLET_NO_SUCH_LINE 11u
+#define SURFGIMLET_RECORD_COUNT 12u
+#define SURFGIMLET_RECORD_VALUE 13u
 #define SURFGIMLET_NO_SUCH_CHOICE 100u
 
 static inline const char *surfgimlet_words(uint32_t answer)
@@ -69,6 +71,8 @@ static inline const char *surfgimlet_words(uint32_t answer)
     case SURFGIMLET_SHEET_DEGREE: return "the sheet has a place of degree above the field's";
     case SURFGIMLET_NOT_DOODSON: return "the Doodson number is above 999,999, or none can write the multipliers";
     case SURFGIMLET_NO_SUCH_LINE: return "no printed line has the Doodson number";
+    case SURFGIMLET_RECORD_COUNT: return "the list of own lines has more than 64 records";
+    case SURFGIMLET_RECORD_VALUE: return "an own line has a multiplier outside -13..13, a first one not 0, 1 or 2, or an amplitude beyond 100,000";
     case SURFGIMLET_NO_SUCH_CHOICE: return "a choice, or a body's kind, is none of its numbers";
     default: return "no answer of this unit";
     }
@@ -105,6 +109,13 @@ typedef struct {
     double r;
 } surfgimlet_body;
 
+/* A tide line of an operator's own: its six multipliers, the first 0, 1 or 2 and the others -13..13, and its amplitudes in
+ * phase (ip) and out of phase (op) in tenths of 10^-12, that is in 100 counts, each -100,000..100,000. */
+typedef struct {
+    int32_t tau, s, h, p, np, ps;
+    int64_t ip, op;
+} surfgimlet_own_line;
+
 /* The version of the library, as SURFGIMLET_VERSION. */
 uint32_t surfgimlet_version(void);
 
@@ -121,6 +132,19 @@ SURFGIMLET_ANSWER uint32_t surfgimlet_step_one(uint32_t n, int64_t *c, size_t c_
  * Refused: 100; 1, 2. */
 SURFGIMLET_ANSWER uint32_t surfgimlet_step_two(uint32_t n, int64_t *c, size_t c_length, int64_t *s, size_t s_length,
                                                surfgimlet_phases phases, uint32_t love_model);
+
+/* Tide lines of an operator's own. With x the phase of a line, its multipliers times the phases, the first multiplier says
+ * what it adds:
+ *   0, long period: ip cos x - op sin x to C20;
+ *   1, diurnal: ip sin x + op cos x to C21, ip cos x - op sin x to S21;
+ *   2, semidiurnal: ip cos x - op sin x to C22, -ip sin x - op cos x to S22.
+ * The printed lines of long period add ip cos x + op sin x: as a line of one's own such a line has its op turned.
+ * Given: a field in counts, n its degree, the lengths in entries; 0 to 64 records, equal ones all counting; the phases.
+ * Done: the corrections of C20, C21, S21, C22 and S22 are added.
+ * Refused: 1, 2; 12, 13. */
+SURFGIMLET_ANSWER uint32_t surfgimlet_own_lines(uint32_t n, int64_t *c, size_t c_length, int64_t *s, size_t s_length,
+                                                const surfgimlet_own_line *lines, size_t lines_length,
+                                                surfgimlet_phases phases);
 
 /* Ocean tide of a model sheet. All numbers of a sheet are little-endian, each section comes after its 16-bit count:
  *   lines (1..128): six signed bytes, the multipliers, each -13..13;

@@ -6,6 +6,7 @@ ghost use Rattle.doodson.specs.Doodson.{writeDoodson};
 ghost use Rattle.leaving.specs.Leaving.{found, Leaves};
 ghost use Rattle.lines.specs.Lines.{findLine};
 ghost use Rattle.refusals.specs.Outcome.{Gives};
+ghost use Rattle.surfgimlet.specs.Calls.{ownLines};
 ghost use Rattle.boundary.specs.Calls.{versionNumber, stepOneGiven, stepTwoGiven, oceanGiven, moveGiven, multipliersGiven};
 use arguments::Phases;
 use bodies::Body;
@@ -13,19 +14,20 @@ use choices::Frame;
 use choices::LoveModel;
 use choices::PermanentSystem;
 use crossing::GivenBody;
+use own::OwnLine;
 
 const NO_SUCH_CHOICE: u32 = 100;
 
 const MAJOR: u32 = 1;
 
-const MINOR: u32 = 0;
+const MINOR: u32 = 1;
 
 const PATCH: u32 = 0;
 
 // The version as one number, which SURFGIMLET_VERSION of the header equals.
 #[no_mangle]
 pub extern "C" fn surfgimlet_version() -> u32
-    ensures { λ r. ⌜ r ≡ versionNumber 1 0 0 ⌝ }
+    ensures { λ r. ⌜ r ≡ versionNumber 1 1 0 ⌝ }
 {
     1000000 * MAJOR + 1000 * MINOR + PATCH
 }
@@ -69,6 +71,20 @@ pub extern "C" fn surfgimlet_step_two(
     } else {
         NO_SUCH_CHOICE
     }
+}
+
+// Tide lines of an operator's own. Refused as surfgimlet::own_lines.
+#[no_mangle]
+pub extern "C" fn surfgimlet_own_lines(
+    n: u32,
+    c: &mut [i64],
+    s: &mut [i64],
+    lines: &[OwnLine],
+    phases: Phases,
+) -> u32
+    ensures { λ r. ⌜ Gives (ownLines n (now (c .entry)) (now (s .entry)) (now (lines .entry)) phases) r (now (c .exit)) (now (s .exit)) ⌝ }
+{
+    refusals::answer_number(surfgimlet::own_lines(n, c, s, lines, phases))
 }
 
 // The ocean tide of a model sheet. Refused: 100, then as surfgimlet::ocean_tide.
