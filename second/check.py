@@ -1,4 +1,4 @@
-"""Runs the cases of the description (01) and its bounds on the second program; prints one line."""
+"""Runs the cases of the description (01, and T-01 of 02) and its bounds on the second program; prints one line."""
 
 import struct
 from collections import Counter
@@ -36,6 +36,13 @@ def random_phases():
 
 def random_field(N):
     return [given.entry(chance) for _ in range(t.size(N))], [given.entry(chance) for _ in range(t.size(N))]
+
+
+def changes_of(five, N):
+    """What the corrections to C20, C21, S21, C22, S22 change in C and in S of a field of degree N."""
+    c20, c21, s21, c22, s22 = five
+    rest = [0] * (t.size(N) - 6)
+    return [0] * 3 + [c20, c21, c22] + rest, [0] * 4 + [s21, s22] + rest
 
 
 # --- Sheets ---
@@ -222,8 +229,7 @@ def step_two():
                 within('step two', abs(value - exact), 1, strict=True)
             C, S = random_field(N)
             number, C2, S2 = t.step_two(N, C, S, phases, love)
-            wanted = [0] * 3 + [five[0], five[1], five[3]] + [0] * (t.size(N) - 6), [0] * 4 + [five[2], five[4]] + [0] * (t.size(N) - 6)
-            expect('step two', (number, [b - a for a, b in zip(C, C2)], [b - a for a, b in zip(S, S2)]), (0, *wanted))
+            expect('step two', (number, [b - a for a, b in zip(C, C2)], [b - a for a, b in zip(S, S2)]), (0, *changes_of(five, N)))
             assert love == t.ANELASTIC or five[0] == 0
     for phases in telling.tie_phases():
         ties = 0
@@ -250,6 +256,156 @@ def permanent():
     expect('permanent', t.nearest(a0h0), t.MEAN_OVER_ZERO)
     for love, k20 in ((t.ELASTIC, Fraction(29525, 10**5)), (t.ANELASTIC, Fraction(30190, 10**5))):
         expect('permanent', t.nearest(a0h0 * k20), t.PERMANENT[love])
+
+
+# --- Tide lines of our own ---
+
+def check_own(records, phases, N=4):
+    """One list on one field: every entry after the call, and each correction against its exact sum. Answers the five."""
+    five = t.own_line_corrections(records, phases)
+    for value, exact in zip(five, t.own_lines_exact(records, phases), strict=True):
+        within('own lines', abs(value - exact), 3)
+    C, S = random_field(N)
+    number, C2, S2 = t.own_lines(N, C, S, records, phases)
+    expect('own lines', (number, [b - a for a, b in zip(C, C2)], [b - a for a, b in zip(S, S2)]), (0, *changes_of(five, N)))
+    return five
+
+
+def by_hand():
+    """Records of one band at a phase whose waves are known; ip 3 and op 5 are 300 and 500 counts."""
+    quarter, none = 1 << 30, (0, 0, 0, 0, 0)
+    # C20: ip*cosine - op*sine; C21: ip*sine + op*cosine; S21: ip*cosine - op*sine; C22: ip*cosine - op*sine; S22: -ip*sine - op*cosine
+    for phase, c20, c21, s21, c22, s22 in (
+            (0 * quarter, 300, 500, 300, 300, -500),            # sine 0, cosine 1
+            (1 * quarter, -500, 300, -500, -500, -300),         # sine 1, cosine 0
+            (2 * quarter, -300, -500, -300, -300, 500),         # sine 0, cosine -1
+            (3 * quarter, 500, -300, 500, 500, 300),            # sine -1, cosine 0
+            (quarter // 2, -141, 566, -141, -141, -566),        # both 0.70710678: -141.42, 565.69
+            (5 * quarter // 2, 141, -566, 141, 141, 566)):      # both -0.70710678
+        three = [telling.in_band(band, 3, 5) for band in range(3)]
+        for record, five in zip(three, ((c20, 0, 0, 0, 0), (0, c21, s21, 0, 0), (0, 0, 0, c22, s22)), strict=True):
+            expect('own lines', check_own([record], telling.at_s(phase)), five)
+        expect('own lines', check_own(three, telling.at_s(phase)), (c20, c21, s21, c22, s22))
+    # ip alone, then op alone, at the sine 1 and at the cosine 1: 700 counts
+    for band, ip_sine, op_sine, ip_cosine, op_cosine in (
+            (0, none, (-700, 0, 0, 0, 0), (700, 0, 0, 0, 0), none),
+            (1, (0, 700, 0, 0, 0), (0, 0, -700, 0, 0), (0, 0, 700, 0, 0), (0, 700, 0, 0, 0)),
+            (2, (0, 0, 0, 0, -700), (0, 0, 0, -700, 0), (0, 0, 0, 700, 0), (0, 0, 0, 0, -700))):
+        for phase, ip, op in ((quarter, ip_sine, op_sine), (0, ip_cosine, op_cosine)):
+            expect('own lines', check_own([telling.in_band(band, 7, 0)], telling.at_s(phase)), ip)
+            expect('own lines', check_own([telling.in_band(band, 0, 7)], telling.at_s(phase)), op)
+    # the band is the first multiplier's, whatever the others are; this phase is first*tau, a quarter turn times it: sines 0, 1, 0
+    for others in ((1, 1, 1, 1, 1), (2, 2, 2, 2, 2), (0, 0, 0, 0, 0), (13, -13, 5, 0, 1)):
+        five = [check_own([(band, *others, 3, 5)], (quarter, 0, 0, 0, 0, 0)) for band in range(3)]
+        expect('own lines', five, [(300, 0, 0, 0, 0), (0, 300, -500, 0, 0), (0, 0, 0, -300, 500)])
+    # 2 and 2 at an eighth: 141.42 and 141.42 counts are 282.84
+    for band, op, five in ((0, -2, (283, 0, 0, 0, 0)), (1, 2, (0, 283, 0, 0, 0)), (2, -2, (0, 0, 0, 283, 0)), (2, 2, (0, 0, 0, 0, -283))):
+        expect('own lines', check_own([telling.in_band(band, 2, op)], telling.at_s(quarter // 2)), five)
+    expect('own lines', check_own(telling.OWN_RECORDS, telling.DAY_PHASES), telling.OWN_FIVE)
+
+
+def by_complex(records, phases):
+    """The five from (ip + i*op) times e^(i*phase), as floats: C20 its real part, C21 - i*S21 is -i times it, C22 - i*S22 is it."""
+    bands = [0j, 0j, 0j]
+    for first, *others, ip, op in records:
+        turns = sum(n * phase for n, phase in zip((first, *others), phases)) % 2**32 / 2**32
+        bands[first] += 100 * complex(ip, op) * complex(cos(turns * 6.283185307179586), sin(turns * 6.283185307179586))
+    zero, one, two = bands[0], -1j * bands[1], bands[2]
+    return zero.real, one.real, -one.imag, two.real, -two.imag
+
+
+def hard_records(band, phase, by_sine):
+    """64 records at full size, and phases: every sign set so that the errors of this phase pull one way in the sum that takes ip by this wave."""
+    sine_error, cosine_error = (f(phase) - t.UNIT * g(phase) for f, g in ((t.sine, t.exact_sine), (t.cosine, t.exact_cosine)))
+    signs = [1 if error >= 0 else -1 for error in ((sine_error, cosine_error) if by_sine else (cosine_error, -sine_error))]
+    record = lambda less: telling.in_band(band, *(sign * (t.AMPLITUDE_BOUND - less) for sign in signs))
+    tried = lambda less: ([record(0)] * 63 + [record(less)], telling.at_s(phase))
+    drift = lambda two: max(abs(value - exact) for value, exact in zip(t.own_line_corrections(*two), t.own_lines_exact(*two)))
+    return max(map(tried, range(40)), key=drift)
+
+
+def own_lines(hardest):
+    by_hand()
+    for N in (4, 5, 60):
+        expect('own lines', check_own([], random_phases(), N), (0,) * 5)
+    for i in range(600):
+        records, phases = given.records(chance, chance.one(0, 1, 2, 3, chance.below(65), 64)), random_phases()
+        five = check_own(records, phases, 4 if i % 5 else chance.between(4, 60))
+        for value, real in zip(five, by_complex(records, phases), strict=True):
+            within('own lines by doubles', abs(value - real), 3)
+        expect('own lines', t.own_line_corrections(records[::-1], phases), five)
+    for band, by_sine in product(range(3), (False, True)):
+        for phase in (hardest, given.phase(chance)):
+            check_own(*hard_records(band, phase, by_sine))
+    for at, band in product(range(6), range(3)):                                # each multiplier with its own argument
+        for n in range(-13, 14) if at else (band,):
+            phases, multipliers = random_phases(), given.spoilt((band, 0, 0, 0, 0, 0), at, n)
+            phase = n * phases[at] + (band * phases[0] if at else 0)
+            expect('own lines', t.own_line_corrections([(*multipliers, 987, -654)], phases),
+                   t.own_line_corrections([telling.in_band(band, 987, -654)], telling.at_s(phase)))
+    for _ in range(100):                                                        # equal records count each
+        phases, multipliers, count = random_phases(), given.record(chance)[:6], chance.between(2, 64)
+        ip, op = (chance.between(-1562, 1562) for _ in range(2))
+        expect('own lines', check_own([(*multipliers, ip, op)] * count, phases), check_own([(*multipliers, count * ip, count * op)], phases))
+    for records, phases in telling.small_records():                             # 25.6 counts of one wave, 6399.95 of the other
+        expect('own lines', {*map(abs, check_own(records, phases))} - {6400}, {0, 26})
+    for records, phases in telling.own_line_ties():
+        sums = t.own_line_sums(records, phases, t.sine, t.cosine)
+        for value, total in zip(check_own(records, phases), sums, strict=True):
+            if total % t.UNIT == t.UNIT // 2:
+                expect('own lines', value, (total >> 30) + 1)                   # the half goes up, whatever its sign
+    for (which, one), beside, _ in product(enumerate(telling.SUMS), (0, 1), range(8)):
+        records, phases, total = telling.at_a_tie(chance, *one, beside)
+        expect('own lines', total % (1 << 30) - (1 << 29), 0 if not beside else 4 if which == 4 else -4)
+        expect('own lines', check_own(records, phases)[which], total + (1 << 29) >> 30)
+    for _ in range(60):                                                         # the printed lines, whose op of C20 has the other sign
+        lines = [(number, ip, 0) for number, _, ip in t.DIURNAL + t.SEMIDIURNAL] + [(number, ip, -op) for number, ip, op in t.LONG_PERIOD]
+        records, phases = [(*t.doodson_read(number)[1], ip, op) for number, ip, op in lines], random_phases()
+        expect('own lines', check_own(records, phases), t.step_two_corrections(phases, t.ANELASTIC))
+    own_line_refusals()
+
+
+def own_line_refusals():
+    """12 before 13, 1 and 2 before both; the ends of each range pass."""
+    def refuse(number, records):
+        expect('own lines', t.records_test(records), number)
+        N = chance.one(4, 4, 12)
+        C, S = random_field(N)
+        phases = random_phases()
+        expect('own lines', t.own_lines(N, C, S, records, phases), (number, C, S))
+        expect('own lines', t.own_lines(N, C[1:], S, records, phases), (1, C[1:], S))
+        expect('own lines', t.own_lines(3, C, S, records, phases), (1, C, S))
+        spoilt = given.spoilt(C, chance.below(len(C)), chance.one((1 << 60) + 1, -(1 << 63)))
+        expect('own lines', t.own_lines(N, spoilt, S, records, phases), (2, spoilt, S))
+        expect('own lines', t.own_lines(N, S, spoilt, records, phases), (2, S, spoilt))
+
+    good = lambda count: given.records(chance, count)
+    for count in (1, 2, 3, 63, 64):
+        check_own(good(count), random_phases())
+    for count in (65, 66, 128, 200, 256, 320):
+        refuse(12, good(count))
+        refuse(12, given.faulty_records(chance, count))
+    one = (1, 2, -3, 4, -5, 6, 700, -800)
+    ends = [(at, value) for at, two in enumerate(given.RECORD_ENDS) for value in two]
+    for at, value in (*ends, (0, 1)):
+        check_own([given.spoilt_record(one, at, value)], random_phases())
+        check_own([*good(63), given.spoilt_record(one, at, value)], random_phases())
+    check_own([(2, 13, 13, 13, 13, 13, 100_000, 100_000), (0, -13, -13, -13, -13, -13, -100_000, -100_000)] * 32, random_phases())
+    tried = [*given.record_faults()]
+    asked = [(0, -1), (0, 3), (0, 13), (0, -13), *((at, n) for at in range(6) for n in (14, -14, -(1 << 31), (1 << 31) - 1)),
+             *((at, a) for at in (6, 7) for a in (100_001, -100_001, -(1 << 63), (1 << 63) - 1))]
+    expect('own lines', [fault for fault in asked if fault not in tried], [])
+    for at, value in tried:
+        bad = given.spoilt_record(one, at, value)
+        refuse(13, [bad])
+        refuse(13, given.spoilt(good(64), chance.one(0, 63, chance.below(64)), bad))
+        refuse(12, given.spoilt(good(65), chance.one(0, 64, chance.below(65)), bad))
+    for place in range(64):
+        refuse(13, given.spoilt(good(64), place, given.faulty_records(chance, 1)[0]))
+    for least_or_most in zip(*given.WIDTHS):
+        refuse(13, [least_or_most])
+        refuse(12, [least_or_most] * 65)
+    refuse(13, given.faulty_records(chance, 64))
 
 
 # --- Ocean ---
@@ -425,6 +581,7 @@ def main():
     ocean(hardest)
     step_one_values()
     step_one_refusals()
+    own_lines(hardest)
     day()
     seen = ', '.join(f'{kind} {count}' for kind, count in counts.items())
     errors = ', '.join(f'{kind} {float(error):.6f}' for kind, error in worst.items())

@@ -1,4 +1,4 @@
-"""What is given to the calls: fields, phases, bodies and sheets, drawn by a Chance."""
+"""What is given to the calls: fields, phases, bodies, records and sheets, drawn by a Chance."""
 
 import struct
 from math import inf, nan, nextafter
@@ -87,6 +87,55 @@ def faulty_bodies():
     fives = [spoilt_body(one, at, bad) for one in GOOD for at in (1, 2, 3) for bad in (1e160, -1.7e308, 0.5 * one[1][4], 1e-5 * one[1][4])]
     fives += [(1.0, (kind, *[huge] * 3, 1e9)) for kind in (t.DIRECTION, t.RECTANGULAR) for huge in (0.0, 1e154, 1.7e308, -1.7e308)]
     return [(number, one) for number, bodies in ((3, threes), (4, fours), (5, fives)) for one in bodies]
+
+
+# --- Records of our own lines ---
+
+RECORD_ENDS = [(0, 2)] + [(-13, 13)] * 5 + [(-100_000, 100_000)] * 2
+WIDTHS = [(LEAST_32, -1 - LEAST_32)] * 6 + [(LEAST_64, -1 - LEAST_64)] * 2      # multipliers arrive in 32 bits, amplitudes in 64
+
+
+def amplitude(chance):
+    return chance.one(chance.between(-100_000, 100_000), chance.between(-100_000, 100_000), 100_000, -100_000, chance.between(-9, 9))
+
+
+def record(chance):
+    """Six multipliers, the in-phase and the out-of-phase amplitude, in their ranges."""
+    others = (chance.one(chance.between(-13, 13), chance.between(-2, 2), 13, -13, 0) for _ in range(5))
+    return chance.below(3), *others, amplitude(chance), amplitude(chance)
+
+
+def records(chance, count):
+    """So many records, in one list out of four with equal ones among them."""
+    drawn = [record(chance) for _ in range(count)]
+    if count > 1 and chance.one_in(4):
+        for _ in range(chance.between(1, count)):
+            drawn[chance.below(count)] = drawn[chance.below(count)]
+    return drawn
+
+
+def spoilt_record(one, at, value):
+    return tuple(spoilt(one, at, value))
+
+
+def record_faults():
+    """Where a record is spoilt and by what, one fault of refusal 13 each: beyond either end, at the widths' ends, and what a narrower number cuts
+    to a value in range."""
+    for at, (low, high) in enumerate(RECORD_ENDS):
+        least, most = WIDTHS[at]
+        cut = [1 << 8, (1 << 8) + high, low - (1 << 8), 1 << 16, (1 << 16) + high, low - (1 << 16)]
+        if at > 5:
+            cut = [1 << 32, (1 << 32) + high, low - (1 << 32), 1 << 31, LEAST_32, 1 << 62]
+        more = (13, -13, 14, -14) if at == 0 else ()
+        for value in (low - 1, high + 1, low - 2, high + 2, least, most, least + 1, most - 1, *more, *cut):
+            yield at, value
+
+
+def faulty_records(chance, count):
+    """So many records, and in each of them one fault or all of its eight numbers at the ends of their widths."""
+    faults = [*record_faults()]
+    return [tuple(chance.one(*ends) for ends in WIDTHS) if chance.one_in(4) else spoilt_record(record(chance), *chance.one(*faults))
+            for _ in range(count)]
 
 
 # --- Sheets ---

@@ -4,6 +4,7 @@ A slip in step one's order of operations moves a product by a last bit or two. T
 of a product that is a whole number and a half, or the float next to such a one, does.
 """
 
+from itertools import product
 from math import asin, floor, inf, nextafter, sqrt
 
 import tides as t
@@ -145,3 +146,68 @@ DAY_BODIES = (
 DAY_PHASES = 327043742, 329517021, 656638906, 3117674196, 3812369497, 3376471194
 DAY_STEP_ONE = {(2, 0): [90693, 0], (2, 1): [-3837629, 950496], (2, 2): [6230270, -4328639]}
 DAY_STEP_TWO = 33089, 427078, 333684, -787, 696
+
+
+# --- Tide lines of our own ---
+
+def in_band(band, ip, op):
+    """A record of the band whose phase is the argument s."""
+    return band, 1, 0, 0, 0, 0, ip, op
+
+
+def at_s(phase):
+    return 0, phase % t.TURN, 0, 0, 0, 0
+
+
+def own_line_ties():
+    """Records and phases at which a sum is a whole number and a half: each of the five, by ip and by op, of either sign.
+
+    100 is 4 times an odd number: a wave of 2^27 times an odd number makes a tie of an odd amplitude, one of 2^26 times an odd number a tie of two
+    equal records, each of which has a quarter or three.
+    """
+    for count, value in ((1, 3 << 27), (1, 7 << 27), (2, 1 << 26), (2, 9 << 26)):
+        at = sine_phase(value)
+        for band, one, phase in product(range(3), ((1, 0), (0, 1), (-3, 0), (0, 99_999)), (at, -at, t.UNIT - at, t.UNIT + at)):
+            records, phases = [in_band(band, *one)] * count, at_s(phase)
+            if any(total % t.UNIT == t.UNIT // 2 for total in t.own_line_sums(records, phases, t.sine, t.cosine)):
+                yield records, phases
+
+
+def at_a_tie(chance, band, by_sine, beside):
+    """Two records of the band, phases, and the sum that takes ip by this wave: a whole number and a half, or 4 units of 2^-30 beside that.
+
+    A unit that a record's part loses before the whole sum is rounded shows. The sum is 100 times another one, which is made to be 2^27, or
+    1/25 less, modulo 2^28.
+    """
+    modulus = 1 << 28
+    goal = ((1 << 27) - beside) * pow(25, -1, modulus)
+    while True:
+        phases = 0, chance.below(t.TURN), chance.below(t.TURN), 0, 0, 0
+        (a, b), (c, d) = ((t.sine(at), t.cosine(at)) if by_sine else (t.cosine(at), -t.sine(at)) for at in phases[1:3])
+        ip, op = chance.between(-100_000, 100_000), chance.between(-100_000, 100_000)
+        part = ip * a + op * b
+        if part % 2 == 0 or d % 2 == 0:
+            continue
+        for ip_2 in range(chance.between(-100_000, 90_000), 100_001):
+            op_2 = ((goal - part - ip_2 * c) * pow(d, -1, modulus) + modulus // 2) % modulus - modulus // 2
+            if abs(op_2) <= 100_000:
+                sign = -1 if by_sine and band == 2 else 1
+                return [(band, 1, 0, 0, 0, 0, ip, op), (band, 0, 1, 0, 0, 0, ip_2, op_2)], phases, sign * 100 * (part + ip_2 * c + op_2 * d)
+
+
+SUMS = (0, False), (1, True), (1, False), (2, False), (2, True)         # C20, C21, S21, C22, S22: the band, and whether ip is by the sine
+
+
+SMALL_PHASE = 2734268        # its sine is 0.004, the cosine a quarter turn before it too
+
+
+def small_records():
+    """64 equal records and phases: to one sum each record gives 0.4 counts, of either sign, and all of them 25.6."""
+    for band, one, phase in product(range(3), ((1, 0), (0, 1), (-1, 0), (0, -1)), (SMALL_PHASE, t.UNIT - SMALL_PHASE)):
+        if band > 0 or (one[1] == 0) == (phase != SMALL_PHASE):         # C20 takes ip by the cosine alone, op by the sine alone
+            yield [in_band(band, *one)] * 64, at_s(phase)
+
+
+# A record for each band, that of the diurnal one twice; at the phases of the day above they give these five, which were made with doubles too.
+OWN_RECORDS = [(0, 2, 0, 0, 0, 0, 37, -12), (1, -1, 0, 0, 0, 0, -250, 31), (1, -1, 0, 0, 0, 0, -250, 31), (2, -1, 0, 1, 0, 0, 18, 45)]
+OWN_FIVE = 3095, 6381, -49977, 4839, 277

@@ -1,4 +1,4 @@
-"""Tide corrections to a gravity field: a second program, written from the description (01) alone.
+"""Tide corrections to a gravity field: a second program, written from the description (01, and T-01 of 02) alone.
 
 Coefficients are whole counts of 10^-15. Every call that can refuse answers the refusal number first, 0 where it accepts.
 Whole numbers and Fractions throughout; floats (IEEE binary64) only in step one.
@@ -59,6 +59,12 @@ def added(C, S, corrections):
         if m > 0:
             S[index(n, m)] += dS
     return C, S
+
+
+def added_five(C, S, five):
+    """New lists with the corrections to C20, C21, S21, C22, S22 added."""
+    c20, c21, s21, c22, s22 = five
+    return added(C, S, [(2, 0, c20, 0), (2, 1, c21, s21), (2, 2, c22, s22)])
 
 
 # --- Doodson numbers and the printed lines ---
@@ -217,8 +223,7 @@ def step_two(N, C, S, phases, love):
     refusal = field_test(N, C, S)
     if refusal:
         return refusal, list(C), list(S)
-    c20, c21, s21, c22, s22 = step_two_corrections(phases, love)
-    return 0, *added(C, S, [(2, 0, c20, 0), (2, 1, c21, s21), (2, 2, c22, s22)])
+    return 0, *added_five(C, S, step_two_corrections(phases, love))
 
 
 def steptwo_program(data):
@@ -229,6 +234,67 @@ def steptwo_program(data):
     rows = [('model', 'C20', 'C21', 'S21', 'C22', 'S22')]
     rows += [(love, *step_two_corrections(phases, love)) for love in (ELASTIC, ANELASTIC)]
     return ''.join(' '.join(map(str, row)) + '\n' for row in rows).encode('ascii')
+
+
+# --- Tide lines of our own (02, T-01) ---
+
+MOST_RECORDS = 64
+AMPLITUDE_BOUND = 100_000        # tenths of 10^-12, 100 counts each
+
+
+def record_fits(record):
+    """'Tide lines of our own': the six multipliers and the two amplitudes of one record in their ranges."""
+    first, *others, ip, op = record
+    return (0 <= first <= 2
+            and all(-13 <= n <= 13 for n in others)
+            and all(abs(amplitude) <= AMPLITUDE_BOUND for amplitude in (ip, op)))
+
+
+def records_test(records):
+    """'Refusal numbers' 12, then 13, of any records: six multipliers, the in-phase and the out-of-phase amplitude."""
+    if len(records) > MOST_RECORDS:
+        return 12
+    if not all(map(record_fits, records)):
+        return 13
+    return 0
+
+
+def own_line_sums(records, phases, sin, cos):
+    """'Tide lines of our own': the five sums C20, C21, S21, C22, S22 in counts times the unit of sin and cos, nothing rounded."""
+    c20 = c21 = s21 = c22 = s22 = 0
+    for *multipliers, ip, op in records:
+        phase = phase_of(multipliers, phases)
+        sine_of, cosine_of = sin(phase), cos(phase)
+        by_cosine = 100 * ip * cosine_of - 100 * op * sine_of
+        by_sine = 100 * ip * sine_of + 100 * op * cosine_of
+        if multipliers[0] == 0:
+            c20 += by_cosine
+        elif multipliers[0] == 1:
+            c21 += by_sine
+            s21 += by_cosine
+        else:
+            c22 += by_cosine
+            s22 -= by_sine
+    return c20, c21, s21, c22, s22
+
+
+def own_line_corrections(records, phases):
+    """'Tide lines of our own': the corrections to C20, C21, S21, C22, S22 in counts, each rounded once."""
+    return tuple(nearest(total, UNIT) for total in own_line_sums(records, phases, sine, cosine))
+
+
+def own_lines_exact(records, phases):
+    """'Tide lines of our own' by the exact counterpart: the five sums as Fractions, in counts."""
+    sums = own_line_sums(records, phases, exact_sine_numerator, exact_cosine_numerator)
+    return tuple(Fraction(total, EXACT_DENOMINATOR) for total in sums)
+
+
+def own_lines(N, C, S, records, phases):
+    """'Tide lines of our own' on a field: (number, C after, S after); refusals 1, 2, 12, 13."""
+    refusal = field_test(N, C, S) or records_test(records)
+    if refusal:
+        return refusal, list(C), list(S)
+    return 0, *added_five(C, S, own_line_corrections(records, phases))
 
 
 # --- Model sheet and ocean tide ---

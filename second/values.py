@@ -1,11 +1,12 @@
-"""Makes the cases that the program `run` runs the unit's calls on, and the lines that it must print, from tides.py alone.
+"""Makes the cases that the program `run` runs the unit's calls on, and the lines that it must print, from tides.py alone; and cases of own_lines.
 
-python3 values.py           writes stdin and stdout of crates/run
+python3 values.py           writes stdin and stdout of crates/run, and tests/boundary/stored.txt
 python3 values.py --check   makes them anew; exits 1 with one line where a stored file differs
 
 Numbers stand little-endian. The input begins with the number of its cases, in 32 bits. A case is a byte for the call, and what it takes; a call
 over a field takes first the degree, the lengths of both lists, and their entries. A line is the refusal's number, or 0 and the values
 answered; of a call over a field, the number and every entry of both lists as they are afterwards.
+The cases of own_lines stand in the words that tests/boundary/values.py writes for the C boundary, each on a field of its own.
 These are some hundreds of cases that show each call at its edges. tests/boundary/values.py holds the calls to thousands, made when it runs.
 """
 
@@ -15,14 +16,16 @@ from collections import Counter
 from itertools import product
 from math import inf, ldexp, nextafter
 from pathlib import Path
+from runpy import run_path
 
 import given
 import telling
 import tides as t
 from chance import Chance
-from given import EDGE, GOOD, LEAST_64, NONE, SMALL, U32, placed, spoilt, spoilt_body, write_sheet
+from given import EDGE, GOOD, LEAST_32, LEAST_64, NONE, SMALL, U32, placed, spoilt, spoilt_body, write_sheet
 
-CRATE = Path(__file__).resolve().parent.parent / 'crates' / 'run'
+ROOT = Path(__file__).resolve().parent.parent
+BOUNDARY = run_path(str(ROOT / 'tests' / 'boundary' / 'values.py'))
 chance = Chance(19960622)
 
 LOVES = t.ELASTIC, t.ANELASTIC
@@ -31,7 +34,7 @@ SYSTEMS = t.TIDE_FREE, t.ZERO, t.MEAN
 KINDS = t.RECTANGULAR, t.DIRECTION
 BEYOND = EDGE, EDGE + 1, -EDGE, -EDGE - 1, LEAST_64, -1 - LEAST_64
 
-cases, lines, tally = [], [], Counter()
+cases, lines, worded, tally = [], [], [], Counter()
 
 
 def case(kind, call, data, number, values):
@@ -229,19 +232,61 @@ def ocean():
     over_field(*given.varied_field(chance, 60), ocean_tide(any_sheet(128, 32, 90), given.phases(chance), t.MASS))
 
 
+# --- Tide lines of our own, as words ---
+
+def own_lines(N, C, S, records, phases):
+    call = BOUNDARY['own_lines'](records, phases)
+    worded.extend(' '.join(map(str, words)) for words in BOUNDARY['words'](((N, C, S), [call])))
+    tally['own_lines', t.own_lines(N, C, S, records, phases)[0]] += 1
+
+
+def own():
+    """Each band at the quarters of a turn, a list of every kind, the ends of each range, and 12, 13 and their order."""
+    quarter, good = 1 << 30, (1, 2, -3, 4, -5, 6, 700, -800)
+    varied = lambda: given.varied_field(chance, 4)
+    own_lines(*ZEROS, telling.OWN_RECORDS, telling.DAY_PHASES)
+    own_lines(*varied(), [], given.phases(chance))
+    for k in range(4):
+        own_lines(*ZEROS, [telling.in_band(band, 3, 5) for band in range(3)], telling.at_s(k * quarter))
+    for band in range(3):
+        own_lines(*ZEROS, [telling.in_band(band, 3, 5)], telling.at_s(quarter // 2))
+        own_lines(*varied(), [telling.in_band(band, 3, 5)] * 2, given.phases(chance))
+    for records, phases in (*list(telling.own_line_ties())[::33], *list(telling.small_records())[3::6]):
+        own_lines(*ZEROS, records, phases)
+    for one in telling.SUMS:
+        own_lines(*ZEROS, *telling.at_a_tie(chance, *one, 0)[:2])
+    for low_or_high in zip(*given.RECORD_ENDS):
+        own_lines(*varied(), [low_or_high], given.phases(chance))
+    for at, value in ((0, -1), (0, 3), (3, 14), (5, -14), (6, 100_001), (7, -100_001), (0, 256), (1, 1 << 16), (2, LEAST_32),
+                      (6, 1 << 32), (7, LEAST_64)):
+        own_lines(*varied(), [good, given.spoilt_record(good, at, value)], given.phases(chance))
+    for least_or_most in zip(*given.WIDTHS):
+        own_lines(*varied(), [least_or_most], given.phases(chance))
+    for count in (64, 65):
+        own_lines(*given.varied_field(chance, 12), given.records(chance, count), given.phases(chance))
+        own_lines(*given.varied_field(chance, 12), [*given.records(chance, count - 1), least_or_most], given.phases(chance))
+    for bad in ([least_or_most], [good] * 65):
+        own_lines(3, *ZEROS[1:], bad, NONE)
+        own_lines(4, spoilt(ZEROS[1], chance.below(15), EDGE + 1), ZEROS[2], bad, NONE)
+
+
 def main():
     numbers()
     solid()
     ocean()
-    files = {'stdin': struct.pack('<I', len(cases)) + b''.join(cases), 'stdout': ''.join(line + '\n' for line in lines).encode('ascii')}
+    own()
+    in_lines = lambda texts: ''.join(text + '\n' for text in texts).encode('ascii')
+    files = {'crates/run/stdin': struct.pack('<I', len(cases)) + b''.join(cases), 'crates/run/stdout': in_lines(lines),
+             'tests/boundary/stored.txt': in_lines(worded)}
     for name, data in files.items():
-        path = CRATE / name
+        path = ROOT / name
         if sys.argv[1:] != ['--check']:
             path.write_bytes(data)
         elif not path.is_file() or path.read_bytes() != data:
-            print(f'crates/run/{name} differs from what second/values.py makes')
+            print(f'{name} differs from what second/values.py makes')
             sys.exit(1)
-    print(f'stored cases: {len(cases)}; by call and number:', ', '.join(f'{call} {number}: {count}' for (call, number), count in sorted(tally.items())))
+    by_number = ', '.join(f'{call} {number}: {count}' for (call, number), count in sorted(tally.items()))
+    print(f'stored cases: {len(cases)} for run, {len(worded) // 2} as words; by call and number: {by_number}')
 
 
 if __name__ == '__main__':

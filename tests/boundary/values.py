@@ -1,7 +1,8 @@
 """Writes calls and the second program's answers to them, as words, for values.c: `python3 values.py > FILE`.
 
-`field`, a degree and two lists lend a field; the calls after it are made on it in turn. A call is its name, what is given (floats as their bits),
-the number answered, and the results, or for each list the entries changed. All other entries must stay as they were.
+`field`, a degree and two lists lend a field; the calls after it are made on it in turn. A call is its name, what is given (floats as their bits,
+records after how many there are), the number answered, and the results, or for each list the entries changed. All other entries must stay as they
+were.
 """
 
 import struct
@@ -43,6 +44,10 @@ def ocean_tide(data, phases, frame):
     return 'ocean_tide', frame, phases, data
 
 
+def own_lines(records, phases):
+    return 'own_lines', records, phases
+
+
 def either(call, *args):
     """The call with either Love model or frame."""
     return [call(*args, 0), call(*args, 1)]
@@ -56,7 +61,10 @@ def named(cases, number):
 
 def on_field(call, N, C, S):
     """(number, C after, S after) of a call on a field."""
-    name, choice, *rest = call
+    name, *args = call
+    if name == 'own_lines':
+        return t.own_lines(N, C, S, *args)
+    choice, *rest = args
     if name == 'step_one':
         love, kinds = named(LOVES, choice), [named(KINDS, one[0]) for one in rest]
         if love and all(kinds):
@@ -102,7 +110,11 @@ def bits(x):
 
 
 def given_words(call):
-    name, choice, *rest = call
+    name, *args = call
+    if name == 'own_lines':
+        records, phases = args
+        return name, len(records), *(word for record in records for word in record), *phases
+    choice, *rest = args
     if name == 'step_one':
         return name, choice, *(word for kind, *floats in rest for word in (kind, *map(bits, floats)))
     if name == 'step_two':
@@ -175,8 +187,12 @@ def fields(call):
                 yield (N, fine, g.spoilt(fine, i, entry)), [call, call]
     for N in range(4, 61):
         yield g.any_field(chance, N), [call, call]                      # and again on its own result
+
+
+def choices(call):
+    """100 before all others, for a call with a choice."""
     name, choice, *rest = call
-    for bad in (2, *NO_CHOICES):                                        # 100 before all others
+    for bad in (2, *NO_CHOICES):
         wrong = name, bad, *rest
         yield ZEROS, [wrong, call, wrong]
         yield (3, *ZEROS[1:]), [wrong]
@@ -281,6 +297,81 @@ def lines():
         calls = either(step_two, g.phases(chance))
         yield (N, [g.EDGE] * t.size(N), [-g.EDGE] * t.size(N)), calls * 2
         yield g.any_field(chance, N), calls * 2
+
+
+# --- Tide lines of our own ---
+
+def some_own(records):
+    return own_lines(records, g.phases(chance))
+
+
+def in_row(calls, count, *fields):
+    """The calls, so many in a row on each field in turn."""
+    for i in range(0, len(calls), count):
+        yield fields[i // count % len(fields)], calls[i:i + count]
+
+
+def records_refused():
+    """12 and 13, 12 before 13, and 1 and 2 before both; the last values that pass, between refused calls too."""
+    fields = [g.varied_field(chance, N) for N in (4, 5, 12)]
+    good = g.record(chance)
+    ends = [g.spoilt_record(good, at, value) for at, two in enumerate(g.RECORD_ENDS) for value in two]
+    yield from in_row([some_own([one]) for one in ends], 4, *fields)
+    yield fields[0], [some_own(ends), some_own([*ends, *ends, *ends, *ends])]
+    faults = [g.spoilt_record(good, *fault) for fault in g.record_faults()]
+    faults += [*zip(*g.WIDTHS), *zip(*([most, least] for least, most in g.WIDTHS))]
+    for i, bad in enumerate(faults):
+        count = chance.between(2, 9) if i % 3 else 65
+        among = g.spoilt(g.records(chance, count), chance.one(0, count - 1, chance.below(count)), bad)
+        yield fields[i % 3], [some_own([bad]), some_own([good]), some_own(among)]
+    for place in range(0, 64, 7):
+        yield fields[0], [some_own(g.spoilt(g.records(chance, 64), place, chance.one(*faults)))]
+    for count in (63, 64, 65, 66, 128, 200):
+        right, wrong = g.records(chance, count), g.faulty_records(chance, count)
+        yield fields[0], [some_own(right), some_own(wrong), some_own(g.spoilt(right, chance.one(0, count - 1), wrong[0])), some_own(right)]
+    for records in ([], [good], faults[:1], faults[-1:], [good] * 65, g.faulty_records(chance, 65), g.faulty_records(chance, 200)):
+        call = some_own(records)
+        for N in (0, 3, 61, 1 << 31, g.U32):
+            yield (N, *ZEROS[1:]), [call]
+        for c, s in ((14, 15), (15, 16), (0, 0), (91, 91)):
+            yield (4, [5] * c, [6] * s), [call]
+        for entry in (g.EDGE, g.EDGE + 1, -g.EDGE - 1, g.LEAST_64, -1 - g.LEAST_64):
+            yield (4, g.spoilt(ZEROS[1], chance.below(15), entry), ZEROS[2]), [call, call]
+            yield (12, [3] * 91, g.spoilt([4] * 91, chance.below(91), entry)), [call, call]
+
+
+def own_waves():
+    """Records alone: each band at the quarters and eighths of a turn, each multiplier at each argument, sums at a tie, and sums of small records."""
+    for band, one in product(range(3), ((3, 5), (7, 0), (0, 7))):
+        phases = [telling.at_s((k << 29) + d) for k in range(8) for d in (-1, 0, 1)]
+        yield from in_row([own_lines([telling.in_band(band, *one)], at) for at in phases], 12, ZEROS)
+    for band, place in product(range(3), range(1, 6)):
+        records = [(*g.spoilt((band, *g.NONE[1:]), place, n), 98_765, -4321) for n in range(-13, 14)]
+        yield from in_row([some_own([one]) for one in records], 9, ZEROS)
+    for records, phases in (*telling.own_line_ties(), *telling.small_records()):
+        yield ZEROS, [own_lines(records, phases)]
+    for one, beside in product(telling.SUMS, (0, 1)):
+        yield ZEROS, [own_lines(*telling.at_a_tie(chance, *one, beside)[:2]) for _ in range(4)]
+    yield ZEROS, [own_lines(telling.OWN_RECORDS, telling.DAY_PHASES), step_two(telling.DAY_PHASES, 1)]
+
+
+def own_lists():
+    """Lists of every length, equal records among them, on fields of every kind; and many calls on one field, others between them."""
+    for count in range(65):
+        records = g.records(chance, count)
+        yield g.varied_field(chance, chance.between(4, 12)), [some_own(records), some_own(records[::-1])]
+    for _ in range(40):
+        one, phases = g.record(chance), g.phases(chance)
+        calls = [own_lines([one] * count, phases) for count in (1, 2, chance.between(3, 64))]
+        yield g.any_field(chance, chance.between(4, 14)), [*calls, own_lines([], phases)]
+    for _ in range(20):
+        call = lambda: some_own(chance.one(g.records(chance, chance.below(9)), g.records(chance, chance.below(9)), g.faulty_records(chance, 3)))
+        yield g.varied_field(chance, 4), [call(), step_two(g.phases(chance), chance.below(2)), call(), call(), call()]
+    for N in (4, 5, 17, 60):                                            # on its own result, and refused with 2 where that left the range
+        calls = [some_own(g.records(chance, 64)), some_own([]), some_own(g.faulty_records(chance, 1))]
+        yield (N, [g.EDGE] * t.size(N), [-g.EDGE] * t.size(N)), calls
+        yield (N, [-g.EDGE] * t.size(N), [g.EDGE] * t.size(N)), calls
+        yield g.any_field(chance, N), calls
 
 
 # --- Ocean tide ---
@@ -395,7 +486,11 @@ def cases():
     low = g.write_sheet(*g.SMALL[:2], g.SMALL[2][:2])                   # its places of degree 1 alone
     for call in (step_one(*g.GOOD, 1), step_two((1, 2, 3, 4, 5, 6), 1), ocean_tide(low, (6, 5, 4, 3, 2, 1), 0)):
         yield from fields(call)
+        yield from choices(call)
     for part in (bodies, body_edges, bounds_of_six, ordinary_bodies, halves, lines, layouts, sheet_values, synthesis, ocean_ties, waves):
+        yield from part()
+    yield from fields(own_lines(telling.OWN_RECORDS, (1, 2, 3, 4, 5, 6)))
+    for part in (records_refused, own_waves, own_lists):
         yield from part()
 
 
