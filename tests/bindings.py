@@ -6,6 +6,7 @@ from array import array
 import surfgimlet as unit
 
 ZERO = unit.Phases(0, 0, 0, 0, 0, 0)
+LINE = unit.OwnLine(1, 1, 0, 0, 0, 0, 3, 5)
 MOON = unit.rectangular(0.0123, 3e8, -2e8, 1e8)
 faults = []
 
@@ -35,7 +36,11 @@ def main():
         expect('step two', raised(unit.step_two, 4, c, s, ZERO, unit.ANELASTIC), None)
         expect('its entries', (c[3], c[4], s[4], c[5], s[5], sum(map(abs, c)) + sum(map(abs, s))), (10100, 0, 450100, -1500, 0, 461700))
         expect('again', (raised(unit.step_two, 4, c, s, ZERO, unit.ANELASTIC), c[3]), (None, 20200))
+        expect('own lines', (raised(unit.own_lines, 4, c, s, [LINE, (1, 0, 0, 0, 0, 0, 0, -1)], ZERO), c[4], s[4]), (None, 400, 900500))
+        expect('none of them', (raised(unit.own_lines, 4, c, s, [], ZERO), c[4], s[4]), (None, 400, 900500))
         kept = list(c), list(s)
+        expect('65 own lines', raised(unit.own_lines, 4, c, s, [LINE] * 65, ZERO), 12)
+        expect('64 of them, the last at fault', raised(unit.own_lines, 4, c, s, [LINE] * 63 + [LINE._replace(tau=3)], ZERO), 13)
         expect('a sheet of nothing', raised(unit.ocean_tide, 4, c, s, b'', ZERO, unit.CENTRE_OF_MASS), 7)
         expect('a Moon in kilometres', raised(unit.step_one, 4, c, s, unit.rectangular(0.0123, 3e5, -2e5, 1e5), MOON, unit.ANELASTIC), 4)
         expect('a Love model 2', raised(unit.step_one, 4, c, s, MOON, MOON, 2), 100)
@@ -53,6 +58,14 @@ def main():
     expect('multipliers', raised(unit.number_of, (1, 5, 0, 0, 0, 0)), 10)
     expect('five of them', raised(unit.number_of, (1, 1, 0, 0, 0)), ValueError)
     expect('a multiplier of 2^32', raised(unit.number_of, (2 ** 32, 0, 0, 0, 0, 0)), OverflowError)
+    for name, value, wanted in (
+            ('tau', 2, None), ('ps', -13, None), ('ip', 100000, None), ('tau', -1, 13), ('ps', -2 ** 31, 13), ('op', -2 ** 63, 13), ('ip', 100001, 13),
+            ('ps', -2 ** 31 - 1, OverflowError), ('s', 2 ** 32, OverflowError), ('op', -2 ** 63 - 1, OverflowError), ('ip', 2 ** 64, OverflowError),
+            ('h', 0.5, TypeError), ('ip', 1.0, TypeError)):
+        expect(f'{name} {value}', raised(unit.own_lines, 4, *field(), [LINE, LINE._replace(**{name: value})], ZERO), wanted)
+    expect('seven numbers of one', raised(unit.own_lines, 4, *field(), [LINE[1:]], ZERO), ValueError)
+    expect('nine', raised(unit.own_lines, 4, *field(), [(1, *LINE)], ZERO), ValueError)
+    expect('one number of one', raised(unit.own_lines, 4, *field(), [(1,)], ZERO), ValueError)
     print('\n'.join(faults) or 'python: refusals are raised, and what is refused changes nothing')
     return bool(faults)
 

@@ -11,17 +11,55 @@ static void expect(const char *what, uint32_t answer, uint32_t wanted)
     faults++;
 }
 
+/* the printed lines as lines of one's own, anelastic, the op of those of long period turned; how many there are */
+static size_t printed(surfgimlet_own_line *lines)
+{
+    size_t count = 0, index;
+    int64_t first, second;
+    int32_t m[6];
+    for (uint32_t number = 0; number < 300000; number++) {
+        if (surfgimlet_find_line(number, &index, &first, &second) != SURFGIMLET_ACCEPTED) continue;
+        expect("a printed number", surfgimlet_multipliers_of(number, m), SURFGIMLET_ACCEPTED);
+        surfgimlet_own_line line = {m[0], m[1], m[2], m[3], m[4], m[5], m[0] == 0 ? first : second, m[0] == 0 ? -second : 0};
+        lines[count++] = line;
+    }
+    return count;
+}
+
 int main(void)
 {
     const int64_t end = (int64_t)1 << 60;
-    const surfgimlet_phases at = {0, 0, 0, 0, 0, 0};
-    int64_t c[15] = {0}, s[15] = {0}, moved = 0;
+    const surfgimlet_phases at = {0, 0, 0, 0, 0, 0}, day = {327043742u, 329517021u, 656638906u, 3117674196u, 3812369497u, 3376471194u};
+    int64_t c[15] = {0}, s[15] = {0}, own_c[15] = {0}, own_s[15] = {0}, moved = 0;
+    surfgimlet_own_line lines[64] = {{1, 0, 0, 0, 0, 0, 3, 5}};
 
     expect("the version", surfgimlet_version(), SURFGIMLET_VERSION);
 
     /* with length 0 a null pointer is welcome */
     expect("no lists", surfgimlet_step_two(4, NULL, 0, NULL, 0, at, SURFGIMLET_ANELASTIC), SURFGIMLET_FIELD_SHAPE);
     expect("no sheet", surfgimlet_ocean_tide(4, c, 15, s, 15, NULL, 0, at, SURFGIMLET_CENTRE_OF_MASS), SURFGIMLET_SHEET_LENGTH);
+
+    expect("no lines", surfgimlet_own_lines(4, c, 15, s, 15, NULL, 0, at), SURFGIMLET_ACCEPTED);
+
+    /* lines of one's own: the layout of a record, and the least numbers of its widths */
+    expect("a record's size", (uint32_t)sizeof lines[0], 40u);
+    expect("a line", surfgimlet_own_lines(4, own_c, 15, own_s, 15, lines, 1, at), SURFGIMLET_ACCEPTED);
+    expect("its C21 and S21", own_c[4] == 500 && own_s[4] == 300 ? 0u : 1u, 0u);
+    lines[1].ps = -2147483647 - 1;
+    expect("the least multiplier", surfgimlet_own_lines(4, own_c, 15, own_s, 15, lines, 2, at), SURFGIMLET_RECORD_VALUE);
+    lines[1].ps = 0;
+    lines[1].op = -end * 7 - end;
+    expect("the least amplitude", surfgimlet_own_lines(4, own_c, 15, own_s, 15, lines, 2, at), SURFGIMLET_RECORD_VALUE);
+    own_c[4] = own_s[4] = 0;
+
+    /* the printed lines as lines of one's own are step two */
+    expect("the printed lines", (uint32_t)printed(lines), 49u);
+    expect("as one's own", surfgimlet_own_lines(4, own_c, 15, own_s, 15, lines, 49, day), SURFGIMLET_ACCEPTED);
+    expect("step two", surfgimlet_step_two(4, c, 15, s, 15, day, SURFGIMLET_ANELASTIC), SURFGIMLET_ACCEPTED);
+    for (int i = 0; i < 15; i++) {
+        expect("the same entry", c[i] == own_c[i] && s[i] == own_s[i] ? 0u : 1u, 0u);
+        c[i] = s[i] = 0;
+    }
 
     /* an accepted call leaves the sum, though it lie outside the range */
     s[4] = end;

@@ -7,8 +7,8 @@
 #include "lent.h"
 #include "model.h"
 
-enum { STEP_ONE, STEP_TWO, OCEAN_TIDE, MOVE_C20, MULTIPLIERS_OF, NUMBER_OF, FIND_LINE, CALLS };
-static const char *names[CALLS] = {"step_one", "step_two", "ocean_tide", "move_c20", "multipliers_of", "number_of", "find_line"};
+enum { STEP_ONE, STEP_TWO, OWN_LINES, OCEAN_TIDE, MOVE_C20, MULTIPLIERS_OF, NUMBER_OF, FIND_LINE, CALLS };
+static const char *names[CALLS] = {"step_one", "step_two", "own_lines", "ocean_tide", "move_c20", "multipliers_of", "number_of", "find_line"};
 static long answered[CALLS][101], differences;
 
 /* xorshift64*, the seed fixed */
@@ -171,6 +171,69 @@ static void to_a_half(surfgimlet_body *moon, surfgimlet_body *sun, uint32_t love
     move_to(moon, sun, love, i, one_in(2) ? half : nextafter(half, -INFINITY));
 }
 
+static int32_t multiplier(void) { return (int32_t)within(one_in(4) ? 3 : 13); }
+
+static int64_t amplitude(void)
+{
+    switch (below(8)) {
+    case 0: return 0;
+    case 1: return 100000;
+    case 2: return -100000;
+    case 3: return within(INT64_C(1) << below(16));
+    default: return within(100000);
+    }
+}
+
+static surfgimlet_own_line record(void)
+{
+    surfgimlet_own_line l;
+    l.tau = (int32_t)below(3);
+    l.s = multiplier(); l.h = multiplier(); l.p = multiplier(); l.np = multiplier(); l.ps = multiplier();
+    l.ip = amplitude(); l.op = amplitude();
+    return l;
+}
+
+/* one field of a record at an end of its range or beyond, up to its width: 2^32 and 2^62 are 0 where the width is cut or hundreds are taken */
+static void spoil(surfgimlet_own_line *l)
+{
+    static const int32_t firsts[] = {0, 2, 3, -1, 13, -13, 256, -65536, INT32_MAX, INT32_MIN, INT32_MIN + 1, INT32_MIN + 2};
+    static const int32_t others[] = {13, -13, 14, -14, 127, 256, 65536, -65536, INT32_MAX, INT32_MIN, INT32_MIN + 13, INT32_MAX - 12};
+    static const int64_t sizes[] = {100000, -100000, 100001, -100001, INT64_C(1) << 32, -(INT64_C(1) << 32), INT64_C(1) << 62, -(INT64_C(1) << 62),
+        INT64_MAX, INT64_MIN, INT64_MIN + 100000, INT64_MAX - 99999};
+    int32_t *field[5] = {&l->s, &l->h, &l->p, &l->np, &l->ps};
+    uint64_t which = below(8), value = below(13);
+    if (which == 0) l->tau = value < 12 ? firsts[value] : (int32_t)any();
+    else if (which < 6) *field[which - 1] = value < 12 ? others[value] : (int32_t)any();
+    else *(which == 6 ? &l->ip : &l->op) = value < 12 ? sizes[value] : (int64_t)any();
+}
+
+/* a list that is right, some of one record over and over; then one in three with a spoilt field, one in twelve too long */
+static void records(lent_records *l)
+{
+    size_t count = one_in(3) ? below(65) : one_in(6) ? 64 : below(9);
+    surfgimlet_own_line *r = l->all + 1;
+    int equal = one_in(8);
+    if (one_in(12)) count = one_in(3) ? 65 : 65 + below(MOST_RECORDS - 64);
+    lend_records(l, count);
+    for (size_t i = 0; i < count; i++) r[i] = equal && i ? r[0] : record();
+    if (count && one_in(3)) spoil(&r[one_in(3) ? count - 1 : below(count)]);
+    if (one_in(100)) for (size_t i = 0; i < count; i++) spoil(&r[i]);
+}
+
+/* one record of 2^16 and a phase where that many hundred times the sine or the cosine is a whole number of counts and a half */
+static void to_a_tie(lent_records *l, surfgimlet_phases *f)
+{
+    const surfgimlet_own_line one = {(int32_t)below(3), 1, 0, 0, 0, 0, one_in(2) ? 65536 : -65536, 0};
+    lend_records(l, 1);
+    l->all[1] = one;
+    if (one_in(2)) { l->all[1].op = one.ip; l->all[1].ip = 0; }
+    f->tau = 0;
+    for (int i = 0; i < 10000; i++) {
+        f->s = (uint32_t)any();
+        if ((6553600 * model_sine(f->s) & 0x3fffffff) == 0x20000000 || (6553600 * model_cosine(f->s) & 0x3fffffff) == 0x20000000) return;
+    }
+}
+
 static uint8_t *put16(uint8_t *at, uint64_t x) { at[0] = (uint8_t)x; at[1] = (uint8_t)(x >> 8); return at + 2; }
 static uint8_t *put32(uint8_t *at, int64_t x) { put16(at, (uint64_t)x & 0xffff); put16(at + 2, (uint64_t)x >> 16 & 0xffff); return at + 4; }
 
@@ -236,8 +299,8 @@ static size_t sheet(uint8_t *out)
     return length;
 }
 
-/* the sheet ends at a page that may not be touched: a read past its end stops the run */
-static const uint8_t *at_the_edge(const uint8_t *bytes, size_t length)
+/* what a call reads ends at a page that may not be touched: a read past its end stops the run */
+static const void *at_the_edge(const void *bytes, size_t length)
 {
     static uint8_t *edge;
     const size_t page = 65536;
@@ -272,6 +335,18 @@ static void over_field(int call)
         answer = surfgimlet_ocean_tide(n, or_null(&c), c.length, or_null(&s), s.length, b, length, f, frame);
         told = model_ocean_tide(n, entries(&c2), c2.length, entries(&s2), s2.length, kept, length, f, frame);
         if (length && memcmp(b, kept, length)) { differences++; puts("ocean_tide: the sheet is changed"); }
+    } else if (call == OWN_LINES) {
+        static lent_records lines;
+        const surfgimlet_own_line *at;
+        surfgimlet_phases f = phases();
+        size_t length;
+        if (one_in(40)) to_a_tie(&lines, &f);
+        else records(&lines);
+        length = (1 + lines.count) * sizeof *at; /* the guard before them too */
+        at = at_the_edge(lines.all, length);
+        answer = surfgimlet_own_lines(n, or_null(&c), c.length, or_null(&s), s.length, lines.count || one_in(2) ? at + 1 : NULL, lines.count, f);
+        told = model_own_lines(n, entries(&c2), c2.length, entries(&s2), s2.length, lines.all + 1, lines.count, f);
+        if (memcmp(at, lines.all, length)) { differences++; puts("own_lines: the records are changed"); }
     } else if (call == STEP_ONE) {
         surfgimlet_body moon = body(3.8e8, 0.0123), sun = body(1.5e11, 332946);
         uint32_t love = choice(2);
@@ -349,15 +424,16 @@ static void alone(int call)
 
 int main(int argc, char **argv)
 {
-    static const int numbers[CALLS][12] = {{0, 1, 2, 3, 4, 5, 6, 100, -1}, {0, 1, 2, 100, -1}, {0, 1, 2, 7, 8, 9, 100, -1},
-        {0, 2, 100, -1}, {0, 10, -1}, {0, 10, -1}, {0, 10, 11, -1}};
+    static const int numbers[CALLS][12] = {{0, 1, 2, 3, 4, 5, 6, 100, -1}, {0, 1, 2, 100, -1}, {0, 1, 2, 12, 13, -1},
+        {0, 1, 2, 7, 8, 9, 100, -1}, {0, 2, 100, -1}, {0, 10, -1}, {0, 10, -1}, {0, 10, 11, -1}};
     long count = argc > 1 ? atol(argv[1]) : 1000000, missing = 0;
     waves(200000);
     for (long i = 0; i < count; i++) {
-        uint64_t pick = below(20);
+        uint64_t pick = below(24);
         if (pick < 8) over_field(OCEAN_TIDE);
         else if (pick < 12) over_field(STEP_ONE);
         else if (pick < 15) over_field(STEP_TWO);
+        else if (pick < 19) over_field(OWN_LINES);
         else alone(MOVE_C20 + (int)below(4));
     }
     for (int call = 0; call < CALLS; call++) {

@@ -4,9 +4,11 @@
 
 #include <stdint.h>
 #include <string.h>
+#include "surfgimlet.h"
 
 #define GUARD 16
 #define LONGEST 2100 /* a field of degree 62, which no call takes, has 2016 entries */
+#define MOST_RECORDS 300 /* no call takes more than 64 */
 #define UNTOUCHED INT64_C(0x5a5aa5a5c3c33c3c)
 
 typedef struct {
@@ -28,6 +30,19 @@ static void lend(lent *l, size_t length)
 static int same(const lent *a, const lent *b)
 {
     return a->length == b->length && memcmp(a->all, b->all, (GUARD + a->length + GUARD) * sizeof a->all[0]) == 0;
+}
+
+/* Records to lend, a guard on either side; what a call reads it leaves as it was. */
+typedef struct {
+    surfgimlet_own_line all[1 + MOST_RECORDS + 1];
+    size_t count;
+} lent_records;
+
+static void lend_records(lent_records *l, size_t count)
+{
+    l->count = count;
+    memset(&l->all[0], 0x5a, sizeof l->all[0]);
+    memset(&l->all[1 + count], 0x5a, sizeof l->all[0]);
 }
 
 /* Results of a call without a field, each alone between guards; what they hold before is theirs to keep on refusal. */

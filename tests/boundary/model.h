@@ -111,6 +111,16 @@ static int64_t model_cosine(uint32_t phase) { return model_sine(phase + (UINT32_
 
 /* ---- step two */
 
+/* five sums of counts times 2^30, each rounded once */
+static void model_add_five(int64_t *c, int64_t *s, int64_t c20, int64_t c21, int64_t s21, int64_t c22, int64_t s22)
+{
+    c[model_place(2, 0)] += model_nearest(c20, INT64_C(1) << 30);
+    c[model_place(2, 1)] += model_nearest(c21, INT64_C(1) << 30);
+    s[model_place(2, 1)] += model_nearest(s21, INT64_C(1) << 30);
+    c[model_place(2, 2)] += model_nearest(c22, INT64_C(1) << 30);
+    s[model_place(2, 2)] += model_nearest(s22, INT64_C(1) << 30);
+}
+
 static uint32_t model_step_two(uint32_t n, int64_t *c, size_t c_length, int64_t *s, size_t s_length,
                                surfgimlet_phases b, uint32_t love)
 {
@@ -138,11 +148,44 @@ static uint32_t model_step_two(uint32_t n, int64_t *c, size_t c_length, int64_t 
             s22 -= one * sine;
         }
     }
-    c[model_place(2, 0)] += model_nearest(c20, INT64_C(1) << 30);
-    c[model_place(2, 1)] += model_nearest(c21, INT64_C(1) << 30);
-    s[model_place(2, 1)] += model_nearest(s21, INT64_C(1) << 30);
-    c[model_place(2, 2)] += model_nearest(c22, INT64_C(1) << 30);
-    s[model_place(2, 2)] += model_nearest(s22, INT64_C(1) << 30);
+    model_add_five(c, s, c20, c21, s21, c22, s22);
+    return 0;
+}
+
+/* ---- lines of an operator's own */
+
+static int model_record(const surfgimlet_own_line *l)
+{
+    const int32_t others[5] = {l->s, l->h, l->p, l->np, l->ps};
+    for (int i = 0; i < 5; i++)
+        if (others[i] < -13 || others[i] > 13) return 0;
+    return (l->tau == 0 || l->tau == 1 || l->tau == 2) && l->ip >= -100000 && l->ip <= 100000 && l->op >= -100000 && l->op <= 100000;
+}
+
+static uint32_t model_own_lines(uint32_t n, int64_t *c, size_t c_length, int64_t *s, size_t s_length,
+                                const surfgimlet_own_line *lines, size_t count, surfgimlet_phases b)
+{
+    int64_t c20 = 0, c21 = 0, s21 = 0, c22 = 0, s22 = 0;
+    uint32_t refusal = model_field(n, c, c_length, s, s_length);
+    if (refusal) return refusal;
+    if (count > 64) return 12;
+    for (size_t i = 0; i < count; i++)
+        if (!model_record(&lines[i])) return 13;
+    for (size_t i = 0; i < count; i++) {
+        const surfgimlet_own_line *l = &lines[i];
+        const int32_t m[6] = {l->tau, l->s, l->h, l->p, l->np, l->ps};
+        int64_t ip = l->ip * 100, op = l->op * 100, sine = model_sine(model_phase(m, b)), cosine = model_cosine(model_phase(m, b));
+        if (l->tau == 0) {
+            c20 += ip * cosine - op * sine;
+        } else if (l->tau == 1) {
+            c21 += ip * sine + op * cosine;
+            s21 += ip * cosine - op * sine;
+        } else {
+            c22 += ip * cosine - op * sine;
+            s22 += -ip * sine - op * cosine;
+        }
+    }
+    model_add_five(c, s, c20, c21, s21, c22, s22);
     return 0;
 }
 

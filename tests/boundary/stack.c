@@ -18,6 +18,7 @@ static int64_t c[1891], s[1891], moved, first, second;
 static int32_t multipliers[6];
 static uint32_t number, answer;
 static size_t place;
+static surfgimlet_own_line lines[64];
 static uint8_t sheet[70000];
 static size_t sheet_length;
 
@@ -39,6 +40,7 @@ static const surfgimlet_body moon = {SURFGIMLET_DIRECTION, 0.0123, 0.6, 0.0, 0.8
 static void nothing(void) { answer = 0; }
 static void step_one(void) { answer = surfgimlet_step_one(60, c, 1891, s, 1891, moon, moon, 1); }
 static void step_two(void) { answer = surfgimlet_step_two(60, c, 1891, s, 1891, b, 1); }
+static void own_lines(void) { answer = surfgimlet_own_lines(60, c, 1891, s, 1891, lines, 64, b); }
 static void ocean_tide(void) { answer = surfgimlet_ocean_tide(60, c, 1891, s, 1891, sheet, sheet_length, b, 0); }
 static void move_c20(void) { answer = surfgimlet_move_c20(0, 0, 2, 1, &moved); }
 static void multipliers_of(void) { answer = surfgimlet_multipliers_of(165555, multipliers); }
@@ -62,7 +64,8 @@ static size_t taken(void (*call)(void))
 int main(void)
 {
     static const struct { const char *name; void (*call)(void); } calls[] = {{"step_one", step_one}, {"step_two", step_two},
-        {"ocean_tide", ocean_tide}, {"move_c20", move_c20}, {"multipliers_of", multipliers_of}, {"number_of", number_of}, {"find_line", find_line}};
+        {"own_lines", own_lines}, {"ocean_tide", ocean_tide}, {"move_c20", move_c20}, {"multipliers_of", multipliers_of}, {"number_of", number_of},
+        {"find_line", find_line}};
     size_t deepest = 0, frame;
     fill();
     frame = taken(nothing);

@@ -5,12 +5,12 @@
 #include "lent.h"
 #include "surfgimlet.h"
 
-#define LEAST 15000 /* cases, so that an input cut short is noticed */
+#define LEAST 18000 /* cases, so that an input cut short is noticed */
 
-enum { STEP_ONE, STEP_TWO, OCEAN_TIDE, MOVE_C20, MULTIPLIERS_OF, NUMBER_OF, FIND_LINE, CALLS };
-static const char *names[CALLS] = {"step_one", "step_two", "ocean_tide", "move_c20", "multipliers_of", "number_of", "find_line"};
-static const int numbers[CALLS][10] = {{0, 1, 2, 3, 4, 5, 6, 100, -1}, {0, 1, 2, 100, -1}, {0, 1, 2, 7, 8, 9, 100, -1},
-    {0, 2, 100, -1}, {0, 10, -1}, {0, 10, -1}, {0, 10, 11, -1}};
+enum { STEP_ONE, STEP_TWO, OWN_LINES, OCEAN_TIDE, MOVE_C20, MULTIPLIERS_OF, NUMBER_OF, FIND_LINE, CALLS };
+static const char *names[CALLS] = {"step_one", "step_two", "own_lines", "ocean_tide", "move_c20", "multipliers_of", "number_of", "find_line"};
+static const int numbers[CALLS][10] = {{0, 1, 2, 3, 4, 5, 6, 100, -1}, {0, 1, 2, 100, -1}, {0, 1, 2, 12, 13, -1},
+    {0, 1, 2, 7, 8, 9, 100, -1}, {0, 2, 100, -1}, {0, 10, -1}, {0, 10, -1}, {0, 10, 11, -1}};
 static long answered[CALLS][101], cases, differences;
 
 static uint32_t n;
@@ -48,6 +48,18 @@ static surfgimlet_body body(void)
     return b;
 }
 
+static void records(lent_records *l)
+{
+    int64_t count = word();
+    if (count < 0 || count > MOST_RECORDS) { puts("values: too many records"); exit(1); }
+    lend_records(l, (size_t)count);
+    for (surfgimlet_own_line *r = l->all + 1; count > 0; count--, r++) {
+        r->tau = (int32_t)word(); r->s = (int32_t)word(); r->h = (int32_t)word();
+        r->p = (int32_t)word(); r->np = (int32_t)word(); r->ps = (int32_t)word();
+        r->ip = word(); r->op = word();
+    }
+}
+
 /* entries, each after its index */
 static void change(lent *l)
 {
@@ -74,7 +86,7 @@ static void expect(int call, uint32_t answer, uint32_t number, int as_told)
     if (answer == number && as_told) return;
     if (differences++ < 20)
         printf("%s, case %ld: answered %" PRIu32 ", told %" PRIu32 "%s\n", names[call], cases, answer, number,
-               as_told ? "" : ", and an entry or a guard differs");
+               as_told ? "" : ", and an entry, a record or a guard differs");
 }
 
 static size_t sheet(uint8_t *bytes)
@@ -92,13 +104,20 @@ static size_t sheet(uint8_t *bytes)
 static void over_field(int call)
 {
     static uint8_t bytes[100000];
-    uint32_t choice = (uint32_t)word(), number, answer;
+    static lent_records lines, kept; /* those lent last */
+    uint32_t choice = call == OWN_LINES ? 0 : (uint32_t)word(), number, answer;
     if (call == STEP_ONE) {
         surfgimlet_body moon = body(), sun = body();
         answer = surfgimlet_step_one(n, or_null(&c), c.length, or_null(&s), s.length, moon, sun, choice);
     } else if (call == STEP_TWO) {
         surfgimlet_phases b = phases();
         answer = surfgimlet_step_two(n, or_null(&c), c.length, or_null(&s), s.length, b, choice);
+    } else if (call == OWN_LINES) {
+        surfgimlet_phases b;
+        records(&lines);
+        b = phases();
+        memcpy(&kept, &lines, sizeof lines);
+        answer = surfgimlet_own_lines(n, or_null(&c), c.length, or_null(&s), s.length, lines.count ? lines.all + 1 : NULL, lines.count, b);
     } else {
         surfgimlet_phases b = phases();
         size_t length = sheet(bytes);
@@ -106,7 +125,7 @@ static void over_field(int call)
     }
     number = (uint32_t)word();
     change(&told_c); change(&told_s);
-    expect(call, answer, number, same(&c, &told_c) && same(&s, &told_s));
+    expect(call, answer, number, same(&c, &told_c) && same(&s, &told_s) && !memcmp(&lines, &kept, sizeof lines));
     memcpy(&c, &told_c, sizeof c); memcpy(&s, &told_s, sizeof s);
 }
 
