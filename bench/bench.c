@@ -10,9 +10,9 @@
 
 #define SIZE 1891
 #define ROUNDS 300
-#define CALLS 60000
+#define CALLS 80000
 
-enum { STEP_ONE, STEP_TWO, OCEAN };
+enum { STEP_ONE, STEP_TWO, OWN, OCEAN, KINDS };
 
 /* what a call is given */
 static uint32_t n, choice;
@@ -20,6 +20,8 @@ static surfgimlet_phases phases = {123456789, 2345678901u, 3456789012u, 45678901
 static surfgimlet_body moon = {SURFGIMLET_DIRECTION, 0.0123, 0.6, 0.48, 0.64, 3.8e8};
 static surfgimlet_body sun = {SURFGIMLET_RECTANGULAR, 332946, 9e10, 7.2e10, -9.6e10, 1.5e11};
 static double radians[6];
+static surfgimlet_own_line lines[70];
+static size_t lines_length;
 static uint8_t sheet[70000];
 static size_t length;
 static int64_t c[SIZE], s[SIZE];
@@ -28,13 +30,13 @@ static uint32_t answer;
 
 /* ---- the ways */
 
-typedef struct { const char *name; step_one_call *one; step_two_call *two; ocean_call *ocean; } way;
+typedef struct { const char *name; step_one_call *one; step_two_call *two; own_call *own; ocean_call *ocean; } way;
 
 static const way ways[] = {
-    {"unit", surfgimlet_step_one, surfgimlet_step_two, surfgimlet_ocean_tide},
-    {"gcc", gcc_step_one, gcc_step_two, gcc_ocean_tide},
+    {"unit", surfgimlet_step_one, surfgimlet_step_two, surfgimlet_own_lines, surfgimlet_ocean_tide},
+    {"gcc", gcc_step_one, gcc_step_two, gcc_own_lines, gcc_ocean_tide},
 #ifdef WITH_CLANG
-    {"clang", clang_step_one, clang_step_two, clang_ocean_tide},
+    {"clang", clang_step_one, clang_step_two, clang_own_lines, clang_ocean_tide},
 #endif
 };
 #define WAYS ((int)(sizeof ways / sizeof *ways))
@@ -48,11 +50,14 @@ static void call(int what, int by)
     if (by == DOUBLES) {
         if (what == STEP_ONE) doubles_step_one(cd, sd, moon, sun, choice);
         else if (what == STEP_TWO) doubles_step_two(cd, sd, radians, choice);
+        else if (what == OWN) answer = doubles_own_lines(cd, sd, lines, lines_length, radians);
         else answer = doubles_ocean_tide(n, cd, sd, sheet, length, radians, choice);
     } else if (what == STEP_ONE) {
         answer = ways[by].one(n, c, size, s, size, moon, sun, choice);
     } else if (what == STEP_TWO) {
         answer = ways[by].two(n, c, size, s, size, phases, choice);
+    } else if (what == OWN) {
+        answer = ways[by].own(n, c, size, s, size, lines, lines_length, phases);
     } else {
         answer = ways[by].ocean(n, c, size, s, size, sheet, length, phases, choice);
     }
@@ -75,6 +80,27 @@ static uint8_t *put(uint8_t *at, int64_t x, int bytes)
 {
     for (int i = 0; i < bytes; i++) at[i] = (uint8_t)((uint64_t)x >> 8 * i);
     return at + bytes;
+}
+
+static void make_lines(int count)
+{
+    lines_length = (size_t)count;
+    for (int i = 0; i < count; i++) {
+        int32_t m[5];
+        for (int j = 0; j < 5; j++) m[j] = (int32_t)within(13);
+        lines[i] = (surfgimlet_own_line){(int32_t)any(3), m[0], m[1], m[2], m[3], m[4], within(100000), within(100000)};
+    }
+}
+
+/* one field of a record, at an end of its range or beyond */
+static void spoil(surfgimlet_own_line *line)
+{
+    static const int32_t narrow[9] = {0, 2, 3, -1, 13, -13, 14, -14, INT32_MIN};
+    static const int64_t wide[8] = {100000, -100000, 100001, -100001, INT64_C(1) << 32, INT64_C(1) << 62, INT64_MAX, INT64_MIN};
+    int32_t *field[6] = {&line->tau, &line->s, &line->h, &line->p, &line->np, &line->ps};
+    uint64_t which = any(8);
+    if (which < 6) *field[which] = narrow[any(9)];
+    else *(which == 6 ? &line->ip : &line->op) = wide[any(8)];
 }
 
 /* places from (1,0) on, so that 90 reach degree 12, 30 degree 7 and 6 degree 3 */
@@ -131,14 +157,14 @@ static void hold(int what)
     }
 }
 
-/* accepted calls, and calls with one thing at fault: an entry, a float, the Moon's mass, a byte of the sheet, its length, N */
+/* accepted calls, and calls with one thing at fault: an entry, a float, the Moon's mass, a byte of the sheet, its length, N, a record */
 static void hold_all(void)
 {
     static const uint32_t degrees[6] = {4, 12, 60, 7, 3, 61};
     static const double floats[8] = {0, -1, 1e8, 1e12, 1e160, -0.0, 1e6, 2.5e11};
     long refused[101] = {0};
     for (long i = 0; i < CALLS; i++) {
-        int what = (int)(i % 3), fault = (int)any(12);
+        int what = (int)(i % KINDS), fault = (int)any(12);
         int64_t edge = (int64_t)1 << 60;
         n = degrees[any(100) ? any(4) : any(6)];
         choice = (uint32_t)any(40) ? (uint32_t)any(2) : 2;
@@ -147,11 +173,13 @@ static void hold_all(void)
         moon = any_body(0.0123, 3e8, 4e8);
         sun = any_body(any(20) ? 332946 : 1e5, any(20) ? 1.4e11 : 1e8, 1.5e11);
         if (what == OCEAN) make_sheet(1 + (int)any(8), 1 + (int)any(4), (int)any(16));
+        if (what == OWN) make_lines(any(8) ? (int)any(65) : 60 + (int)any(11));
         if (fault == 0) (any(2) ? c : s)[any(size_of(4))] = (any(2) ? edge : -edge) + within(1);
         if (fault == 1) *(&(any(2) ? &moon : &sun)->ratio + any(5)) = any(4) ? floats[any(8)] : any(2) ? NAN : INFINITY;
         if (fault == 2) sheet[any(length + 1)] = (uint8_t)any(256);
         if (fault == 3) length += (size_t)within(1);
         if (fault == 4) moon = any_body((double)(100000 + any(900001)), 1e8, 1.5e8);
+        if (fault == 5 && lines_length) spoil(&lines[any(lines_length)]);
         hold(what);
         refused[answer]++;
     }
@@ -211,6 +239,8 @@ static const row rows[] = {
     {"step two, elastic", STEP_TWO, 0, 0, 0, 4, 0, 1.45, 0},
     {"step two, elastic", STEP_TWO, 0, 0, 0, 12, 0, 1.45, 0},
     {"step two, elastic", STEP_TWO, 0, 0, 0, 60, 0, 0, 0},
+    {"own lines 64", OWN, 64, 0, 0, 12, 0, 0, 0},
+    {"own lines 64", OWN, 64, 0, 0, 60, 0, 0, 0},
     {"step one, anelastic", STEP_ONE, 0, 0, 0, 4, 1, 1.10, 0},
     {"step one, anelastic", STEP_ONE, 0, 0, 0, 12, 1, 1.10, 0},
     {"step one, anelastic", STEP_ONE, 0, 0, 0, 60, 1, 1.10, 0},
@@ -234,6 +264,7 @@ static void compare(const row *r)
     n = r->n;
     choice = r->choice;
     if (r->what == OCEAN) make_sheet(r->lines, r->tides, r->places);
+    if (r->what == OWN) make_lines(r->lines);
     memset(c, 0, sizeof c);
     memset(s, 0, sizeof s);
     hold(r->what);
@@ -257,6 +288,7 @@ static void grow(const char *what, int kind, const int sizes[4][4], int part)
         for (int i = 0; i < 4; i++) {
             n = (uint32_t)sizes[i][3];
             if (kind == OCEAN) make_sheet(sizes[i][0], sizes[i][1], sizes[i][2]);
+            if (kind == OWN) make_lines(sizes[i][0]);
             for (int by = 0; by < WAYS; by++) time_once(kind, by, &best[i][by]);
         }
     more = part < 3 ? sizes[3][part] - sizes[0][part] : 2.0 * (double)(size_of((uint32_t)sizes[3][3]) - size_of((uint32_t)sizes[0][3]));
@@ -271,6 +303,7 @@ int main(void)
     static const int by_line[4][4] = {{16, 8, 30, 12}, {32, 8, 30, 12}, {64, 8, 30, 12}, {128, 8, 30, 12}};
     static const int by_tide[4][4] = {{64, 4, 30, 12}, {64, 8, 30, 12}, {64, 16, 30, 12}, {64, 32, 30, 12}};
     static const int by_place[4][4] = {{64, 8, 0, 12}, {64, 8, 30, 12}, {64, 8, 60, 12}, {64, 8, 90, 12}};
+    static const int by_own[4][4] = {{8, 0, 0, 12}, {16, 0, 0, 12}, {32, 0, 0, 12}, {64, 0, 0, 12}};
     static const int by_entry[4][4] = {{0, 0, 0, 4}, {0, 0, 0, 12}, {0, 0, 0, 30}, {0, 0, 0, 60}};
     doubles_prepare();
     hold_all();
@@ -290,6 +323,7 @@ int main(void)
     grow("line: 16, 32, 64, 128 of them", OCEAN, by_line, 0);
     grow("tide: 4, 8, 16, 32", OCEAN, by_tide, 1);
     grow("place: 0, 30, 60, 90", OCEAN, by_place, 2);
+    grow("own line: 8, 16, 32, 64", OWN, by_own, 0);
     grow("entry: step two at N = 4, 12, 30, 60", STEP_TWO, by_entry, 3);
     return 0;
 }

@@ -5,17 +5,20 @@
 
 typedef uint32_t step_one_call(uint32_t n, int64_t *c, size_t c_length, int64_t *s, size_t s_length, surfgimlet_body moon, surfgimlet_body sun, uint32_t love);
 typedef uint32_t step_two_call(uint32_t n, int64_t *c, size_t c_length, int64_t *s, size_t s_length, surfgimlet_phases phases, uint32_t love);
+typedef uint32_t own_call(uint32_t n, int64_t *c, size_t c_length, int64_t *s, size_t s_length, const surfgimlet_own_line *lines, size_t lines_length, surfgimlet_phases phases);
 typedef uint32_t ocean_call(uint32_t n, int64_t *c, size_t c_length, int64_t *s, size_t s_length, const uint8_t *sheet, size_t length, surfgimlet_phases phases, uint32_t frame);
 
 /* best.c, once by each compiler */
 step_one_call gcc_step_one, clang_step_one;
 step_two_call gcc_step_two, clang_step_two;
+own_call gcc_own_lines, clang_own_lines;
 ocean_call gcc_ocean_tide, clang_ocean_tide;
 
 /* doubles.c: phases in radians */
 void doubles_prepare(void);
 void doubles_step_one(double *c, double *s, surfgimlet_body moon, surfgimlet_body sun, uint32_t love);
 void doubles_step_two(double *c, double *s, const double phases[6], uint32_t love);
+uint32_t doubles_own_lines(double *c, double *s, const surfgimlet_own_line *lines, size_t lines_length, const double phases[6]);
 uint32_t doubles_ocean_tide(uint32_t n, double *c, double *s, const uint8_t *sheet, size_t length, const double phases[6], uint32_t frame);
 
 #endif

@@ -1,4 +1,4 @@
-/* The unit's three calls over a field, in C written for speed: the same refusals in the same order and the same counts, no intrinsics.
+/* The unit's four calls over a field, in C written for speed: the same refusals in the same order and the same counts, no intrinsics.
  * Each compiler's copy has names of its own, by -D'CALL(x)=..'. Compile with -ffp-contract=off. */
 #include <math.h>
 #include <string.h>
@@ -112,6 +112,39 @@ uint32_t CALL(step_two)(uint32_t n, int64_t *c, size_t c_length, int64_t *s, siz
     s[4] += nearest_30(100 * s21);
     c[5] += nearest_30(100 * c22);
     s[5] += nearest_30(100 * s22);
+    return 0;
+}
+
+/* ---- lines of an operator's own */
+
+/* Every band takes ip*cosine - op*sine, and ip*sine + op*cosine or its negative: two sums for each. */
+uint32_t CALL(own_lines)(uint32_t n, int64_t *restrict c, size_t c_length, int64_t *restrict s, size_t s_length, const surfgimlet_own_line *restrict lines,
+                         size_t lines_length, surfgimlet_phases b)
+{
+    uint32_t phases[64], sines[64], cosines[64], bad = 0, refusal;
+    int64_t along[3] = {0}, across[3] = {0};
+    if ((refusal = field_refusal(n, c, c_length, s, s_length))) return refusal;
+    if (lines_length > 64) return 12;
+    if (lines_length == 0) return 0;
+    for (size_t i = 0; i < lines_length; i++) {
+        const surfgimlet_own_line *l = lines + i;
+        uint32_t tau = (uint32_t)l->tau, m1 = (uint32_t)l->s, m2 = (uint32_t)l->h, m3 = (uint32_t)l->p, m4 = (uint32_t)l->np, m5 = (uint32_t)l->ps;
+        bad |= (tau > 2) | (m1 + 13 > 26) | (m2 + 13 > 26) | (m3 + 13 > 26) | (m4 + 13 > 26) | (m5 + 13 > 26)
+            | ((uint64_t)l->ip + 100000 > 200000) | ((uint64_t)l->op + 100000 > 200000);
+        phases[i] = tau * b.tau + m1 * b.s + m2 * b.h + m3 * b.p + m4 * b.np + m5 * b.ps;
+    }
+    if (bad) return 13;
+    waves(phases, lines_length, sines, cosines);
+    for (size_t i = 0; i < lines_length; i++) {
+        int64_t ip = lines[i].ip, op = lines[i].op, sine = wave(sines[i]), cosine = wave(cosines[i]);
+        along[lines[i].tau] += ip * cosine - op * sine;
+        across[lines[i].tau] += ip * sine + op * cosine;
+    }
+    c[3] += nearest_30(100 * along[0]);
+    c[4] += nearest_30(100 * across[1]);
+    s[4] += nearest_30(100 * along[1]);
+    c[5] += nearest_30(100 * along[2]);
+    s[5] += nearest_30(-100 * across[2]);
     return 0;
 }
 

@@ -1,5 +1,5 @@
 /* What a user would write: a field of doubles, phases in radians, sine and cosine of the C library, nothing rounded to counts.
- * The sheet is read and tested; the field and the bodies are taken on trust. */
+ * The sheet and the records of own lines are tested; the field and the bodies are taken on trust. */
 #include <math.h>
 #include <string.h>
 #include "bench.h"
@@ -39,6 +39,37 @@ void doubles_step_two(double *c, double *s, const double phases[6], uint32_t lov
     }
     c[3] += c20; c[4] += c21; c[5] += c22;
     s[4] += s21; s[5] += s22;
+}
+
+uint32_t doubles_own_lines(double *c, double *s, const surfgimlet_own_line *lines, size_t lines_length, const double phases[6])
+{
+    double c20 = 0, c21 = 0, s21 = 0, c22 = 0, s22 = 0;
+    int good = 1;
+    if (lines_length > 64) return 12;
+    for (size_t i = 0; i < lines_length; i++) {
+        const int32_t m[5] = {lines[i].s, lines[i].h, lines[i].p, lines[i].np, lines[i].ps};
+        for (int j = 0; j < 5; j++) good &= (m[j] >= -13) & (m[j] <= 13);
+        good &= (lines[i].tau >= 0) & (lines[i].tau <= 2);
+        good &= (lines[i].ip >= -100000) & (lines[i].ip <= 100000) & (lines[i].op >= -100000) & (lines[i].op <= 100000);
+    }
+    if (!good) return 13;
+    for (size_t i = 0; i < lines_length; i++) {
+        const surfgimlet_own_line *l = &lines[i];
+        const double m[6] = {l->tau, l->s, l->h, l->p, l->np, l->ps};
+        double x = angle(m, phases), sine = sin(x), cosine = cos(x), ip = (double)l->ip * 1e-13, op = (double)l->op * 1e-13;
+        if (l->tau == 0) {
+            c20 += ip * cosine - op * sine;
+        } else if (l->tau == 1) {
+            c21 += ip * sine + op * cosine;
+            s21 += ip * cosine - op * sine;
+        } else {
+            c22 += ip * cosine - op * sine;
+            s22 -= ip * sine + op * cosine;
+        }
+    }
+    c[3] += c20; c[4] += c21; c[5] += c22;
+    s[4] += s21; s[5] += s22;
+    return 0;
 }
 
 /* P and Q of one body, added to what is there */

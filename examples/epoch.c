@@ -1,5 +1,6 @@
 /* Every call at one epoch, 2004-05-17 0h: `epoch SHEET <epoch.txt`. The input is six phases, then of the Moon and of the Sun the mass
- * ratio, x, y, z and r. The corrections are gathered in zeros of degree 12; a processor adds 1e-15 times each to its own coefficients. */
+ * ratio, x, y, z and r, then how many own lines there are, and of each the six multipliers, ip and op. The corrections are gathered in
+ * zeros of degree 12; a processor adds 1e-15 times each to its own coefficients. */
 #include <errno.h>
 #include <inttypes.h>
 #include <stdio.h>
@@ -32,19 +33,22 @@ static void added(const char *call)
         }
 }
 
-/* A phase, 0 to 2^32 - 1 and nothing else: scanf itself would take -1 and 99999999999. */
-static uint32_t phase(void)
+/* A whole number, least to most and nothing else: scanf itself would take -1 for a phase, and 99999999999. */
+static int64_t whole(const char *what, int64_t least, int64_t most)
 {
     char word[32] = "", *end = word;
-    unsigned long long value = 0;
+    long long value = 0;
     errno = 0;
-    if (scanf("%31s", word) == 1 && word[0] >= '0' && word[0] <= '9') value = strtoull(word, &end, 10);
-    if (end == word || *end != 0 || errno != 0 || value > UINT32_MAX) {
-        printf("'%s' is no phase\n", word);
+    if (scanf("%31s", word) == 1) value = strtoll(word, &end, 10);
+    if (end == word || *end != 0 || errno != 0 || value < least || value > most) {
+        printf("'%s' is no %s\n", word, what);
         exit(1);
     }
-    return (uint32_t)value;
+    return value;
 }
+
+/* 0 to 2^32 - 1 */
+static uint32_t phase(void) { return (uint32_t)whole("phase", 0, UINT32_MAX); }
 
 static surfgimlet_body body(void)
 {
@@ -54,6 +58,16 @@ static surfgimlet_body body(void)
         exit(1);
     }
     return b;
+}
+
+static surfgimlet_own_line own_line(void)
+{
+    surfgimlet_own_line line;
+    int32_t *multipliers[6] = {&line.tau, &line.s, &line.h, &line.p, &line.np, &line.ps};
+    for (int i = 0; i < 6; i++) *multipliers[i] = (int32_t)whole("multiplier", INT32_MIN, INT32_MAX);
+    line.ip = whole("amplitude", INT64_MIN, INT64_MAX);
+    line.op = whole("amplitude", INT64_MIN, INT64_MAX);
+    return line;
 }
 
 static size_t read_sheet(const char *name, uint8_t *sheet, size_t room)
@@ -81,6 +95,9 @@ int main(int argc, char **argv)
     at.np = phase();
     at.ps = phase();
     surfgimlet_body moon = body(), sun = body();
+    surfgimlet_own_line lines[64];
+    size_t lines_length = (size_t)whole("number of own lines", 0, 64);
+    for (size_t i = 0; i < lines_length; i++) lines[i] = own_line();
 
     if (surfgimlet_version() != SURFGIMLET_VERSION) {
         puts("library and header are of two versions");
@@ -97,6 +114,8 @@ int main(int argc, char **argv)
     added("step one");
     accepted("step_two", surfgimlet_step_two(DEGREE, c, ENTRIES, s, ENTRIES, at, love));
     added("step two");
+    accepted("own_lines", surfgimlet_own_lines(DEGREE, c, ENTRIES, s, ENTRIES, lines, lines_length, at));
+    added("own lines");
     accepted("ocean_tide", surfgimlet_ocean_tide(DEGREE, c, ENTRIES, s, ENTRIES, sheet, sheet_length, at, SURFGIMLET_CENTRE_OF_MASS));
     added("ocean tide");
 

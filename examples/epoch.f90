@@ -1,5 +1,6 @@
 ! Every call at one epoch, 2004-05-17 0h: `epoch SHEET <epoch.txt`. The input is six phases, then of the Moon and of the Sun the mass
-! ratio, x, y, z and r. The corrections are gathered in zeros of degree 12; a processor adds 1e-15 times each to its own coefficients.
+! ratio, x, y, z and r, then how many own lines there are, and of each the six multipliers, ip and op. The corrections are gathered in
+! zeros of degree 12; a processor adds 1e-15 times each to its own coefficients.
 program epoch
     use surfgimlet
     implicit none
@@ -12,6 +13,7 @@ program epoch
     integer(c_int8_t), allocatable :: sheet(:)
     type(phases) :: at
     type(body) :: moon, sun
+    type(own_line), allocatable :: lines(:)
     integer :: status
 
     call read_sheet()
@@ -22,6 +24,7 @@ program epoch
     at = phases(bits(1), bits(2), bits(3), bits(4), bits(5), bits(6))
     moon = read_body()
     sun = read_body()
+    call read_lines()
 
     if (version() /= header_version) call give_up('library and module are of two versions')
     print '(a, i0)', 'version ', version()
@@ -34,6 +37,8 @@ program epoch
     call added('step one')
     call accepted('step_two', step_two(degree, c, s, at, love))
     call added('step two')
+    call accepted('own_lines', own_lines(degree, c, s, lines, at))
+    call added('own lines')
     call accepted('ocean_tide', ocean_tide(degree, c, s, sheet, at, centre_of_mass))
     call added('ocean tide')
 
@@ -85,6 +90,17 @@ contains
         read (*, *, iostat=status) read_body%ratio, read_body%x, read_body%y, read_body%z, read_body%r
         if (status /= 0) call give_up('five numbers of a body are wanted')
     end function
+
+    subroutine read_lines()
+        integer :: length, i
+        read (*, *, iostat=status) length
+        if (status /= 0 .or. length < 0 .or. length > 64) call give_up('the number of own lines is wanted, at most 64')
+        allocate (lines(length))
+        do i = 1, length
+            read (*, *, iostat=status) lines(i)
+            if (status /= 0) call give_up('six multipliers, ip and op of an own line are wanted')
+        end do
+    end subroutine
 
     subroutine read_sheet()
         character(4096) :: name

@@ -1,5 +1,6 @@
 """Every call at one epoch, 2004-05-17 0h: `python3 epoch.py SHEET <epoch.txt`. The input is six phases, then of the Moon and of the Sun the mass
-ratio, x, y, z and r. The corrections are gathered in zeros of degree 12; a processor adds 1e-15 times each to its own coefficients."""
+ratio, x, y, z and r, then how many own lines there are, and of each the six multipliers, ip and op. The corrections are gathered in zeros of
+degree 12; a processor adds 1e-15 times each to its own coefficients."""
 import sys
 
 import surfgimlet as unit
@@ -24,6 +25,7 @@ def main():
     # a number that is no phase is refused here by OverflowError, in the call
     phases = unit.Phases(*map(int, words[:6]))
     moon, sun = (unit.Body(unit.RECTANGULAR, *map(float, words[at:at + 5])) for at in (6, 11))
+    lines = [unit.OwnLine(*map(int, words[at:at + 8])) for at in range(17, 17 + 8 * int(words[16]), 8)]
     love = unit.ANELASTIC
 
     if unit.version() != unit.VERSION:
@@ -37,6 +39,7 @@ def main():
     for name, call in (
             ('step one', lambda: unit.step_one(DEGREE, c, s, moon, sun, love)),
             ('step two', lambda: unit.step_two(DEGREE, c, s, phases, love)),
+            ('own lines', lambda: unit.own_lines(DEGREE, c, s, lines, phases)),
             ('ocean tide', lambda: unit.ocean_tide(DEGREE, c, s, sheet, phases, unit.CENTRE_OF_MASS))):
         before = c[:], s[:]
         call()

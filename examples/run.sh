@@ -40,5 +40,9 @@ for program in "${programs[@]}"; do
         ! sed "1s/^[0-9]*/$wrong/" examples/epoch.txt | $program "$work/sheet" >"$work/stdout" 2>/dev/null || { echo "$name: $wrong taken for a phase"; exit 1; }
         ! grep -q "step two" "$work/stdout" || { echo "$name: step two worked out with the phase $wrong"; exit 1; }
     done
-    echo "$name: as stored; -1, 4294967296 and 99999999999 are no phases"
+    for wrong in 14 4294967298; do
+        ! sed "5s/^0 2 /0 $wrong /" examples/epoch.txt | $program "$work/sheet" >"$work/stdout" 2>/dev/null || { echo "$name: $wrong taken for a multiplier"; exit 1; }
+        ! grep -qx "own lines" "$work/stdout" || { echo "$name: own lines worked out with the multiplier $wrong"; exit 1; }
+    done
+    echo "$name: as stored; -1, 4294967296 and 99999999999 are no phases, 14 and 4294967298 no multipliers"
 done
