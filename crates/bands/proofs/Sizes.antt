@@ -1,6 +1,6 @@
 -- The sizes of sums and corrections, which leave 64 bits ample room; and a sum with one line more. Lines have amplitudes of at most m counts, and waves
 -- are signed 32-bit numbers.
-use mathlib.Core.Path.{_≡_, sym, _∙_}
+use mathlib.Core.Path.{_≡_, refl, sym, _∙_}
 use Prim.Native.Nat.{ℕ, zero, suc, _+_, _*_, _^_, _≤_, _<_}
 use native.Mathlib.Nat.{mul-le-mul-right}
 use native.Mathlib.Numerals.{add-one}
@@ -42,7 +42,7 @@ sum-small lines C S m zero light hc hs k = none-yet lines C S m k
 sum-small lines C S m (suc n) light hc hs k =
     rw (add-one n) at (sum-grows lines C S m n (light n (omega arith)) (hc n) (hs n) k (sum-small lines C S m n (λ i l. light i (omega arith)) hc hs k))
 
-pub sums-next : (lines : ℕ → Line) (C S : ℕ → ℤ) (n : ℕ) → plusLine (sumsOf lines C S n) (lines n) (C n) (S n) ≡ sumsOf lines C S (n + 1)
+pub sums-next : (lines : ℕ → Line) (C S : ℕ → ℤ) (n : ℕ) → plusLine (sumsOf (sumOf lines C S n)) (lines n) (C n) (S n) ≡ sumsOf (sumOf lines C S (n + 1))
 unfolding plusLine sumsOf sumOf
 sums-next lines C S n =
     let next : (k : Coefficient) → sumTo (λ i. term k (lines i) (C i) (S i)) n +ℤ term k (lines n) (C n) (S n) ≡ sumTo (λ i. term k (lines i) (C i) (S i)) (n + 1)
@@ -53,8 +53,11 @@ sums-next lines C S n =
 room : (m i : ℕ) → m ≤ 2 ^ 24 → i ≤ 64 → i * (m * 2 ^ 32) ≤ 2 ^ 62
 room m i hm h = omega (arith, mul-le-mul-right (m * 2 ^ 32) h, mul-le-mul-right (2 ^ 32) hm)
 
+pub lighter : {m : ℕ} {line : Line} → m ≤ 2 ^ 24 → Light m line → Light (2 ^ 24) line
+lighter h light = record { ip = omega (arith, light .ip); op = omega (arith, light .op) }
+
 -- the five sums of i lines, as a loop has them, with the next line and its waves
-module _ (lines : ℕ → Line) (C S : ℕ → ℤ) (m i : ℕ) (hm : m ≤ 2 ^ 24) (h : i ≤ 64) {sums : Sums} (E : sums ≡ sumsOf lines C S i)
+module _ (lines : ℕ → Line) (C S : ℕ → ℤ) (m i : ℕ) (hm : m ≤ 2 ^ 24) (h : i ≤ 64) {sums : Sums} (E : sums ≡ sumsOf (sumOf lines C S i))
     (most : (k : Coefficient) → natAbs (sumOf lines C S i k) ≤ i * (m * 2 ^ 32))
   where
     pub bounded : Bounded sums
@@ -64,38 +67,21 @@ module _ (lines : ℕ → Line) (C S : ℕ → ℤ) (m i : ℕ) (hm : m ≤ 2 ^ 
         rw E (record { c20 = M C20; c21 = M C21; s21 = M S21; c22 = M C22; s22 = M S22 })
 
     pub line-room : {line : Line} {c s : ℤ} → line ≡ lines i → c ≡ C i → s ≡ S i → Light m (lines i) → natAbs (C i) ≤ 2 ^ 31 → natAbs (S i) ≤ 2 ^ 31 → LineRoom sums line c s
-    line-room {line} {c} {s} l x y light hc hs =
-        let b = bounded in
-        record {
-          c20-small = b .c20;
-          c21-small = b .c21;
-          s21-small = b .s21;
-          c22-small = b .c22;
-          s22-small = b .s22;
-          ip-small = rw l (omega (arith, light .ip));
-          op-small = rw l (omega (arith, light .op));
-          cosine-small = rw x hc;
-          sine-small = rw y hs;
-        }
+    line-room l x y light hc hs = record { sums-small = bounded; line-small = rw l (lighter hm light); cosine-small = rw x hc; sine-small = rw y hs }
 
-    pub line-added : {line : Line} {c s : ℤ} {r : Sums} → line ≡ lines i → c ≡ C i → s ≡ S i → r ≡ plusLine sums line c s → r ≡ sumsOf lines C S (i + 1)
+    pub line-added : {line : Line} {c s : ℤ} {r : Sums} → line ≡ lines i → c ≡ C i → s ≡ S i → r ≡ plusLine sums line c s → r ≡ sumsOf (sumOf lines C S (i + 1))
     line-added l x y e = e ∙ rw (E, l, x, y) (sums-next lines C S i)
 
 -- a correction is far below an entry's range
-pub correction-small : (lines : ℕ → Line) (C S : ℕ → ℤ) (m n b : ℕ) → n * (m * 2 ^ 32) ≤ b * 2 ^ 30 → ((i : ℕ) → i < n → Light m (lines i)) → ((i : ℕ) → natAbs (C i) ≤ 2 ^ 31) → ((i : ℕ) → natAbs (S i) ≤ 2 ^ 31)
-    → (k : Coefficient) → natAbs (correctionOf lines C S n k) ≤ b
-unfolding correctionOf
-correction-small lines C S m n b e light hc hs k = nearest-size (sumOf lines C S n k) (2 ^ 30) b (omega arith) (omega (arith, sum-small lines C S m n light hc hs k))
-
-pub corrections-small : (lines : ℕ → Line) (C S : ℕ → ℤ) (m n : ℕ) → m ≤ 2 ^ 24 → n ≤ 64 → ((i : ℕ) → i < n → Light m (lines i)) → ((i : ℕ) → natAbs (C i) ≤ 2 ^ 31) → ((i : ℕ) → natAbs (S i) ≤ 2 ^ 31)
-    → Small (correctionsOf lines C S n)
-unfolding correctionsOf
-corrections-small lines C S m n hm h light hc hs =
-    let s : (k : Coefficient) → natAbs (correctionOf lines C S n k) ≤ 2 ^ 60 = λ k. omega (arith, correction-small lines C S m n (2 ^ 32) (omega (arith, room m n hm h)) light hc hs k) in
-    record { c20 = s C20; c21 = s C21; s21 = s S21; c22 = s C22; s22 = s S22 }
-
 pub rounded-small : (sums : Sums) → Bounded sums → Small (roundedOf sums)
-unfolding roundedOf
+unfolding roundedOf correctionOf
 rounded-small sums b =
     let s : (x : ℤ) → natAbs x ≤ 2 ^ 62 → natAbs (nearest x (2 ^ 30)) ≤ 2 ^ 60 = λ x h. omega (arith, nearest-size x (2 ^ 30) (2 ^ 32) (omega arith) (omega arith)) in
     record { c20 = s _ (b .c20); c21 = s _ (b .c21); s21 = s _ (b .s21); c22 = s _ (b .c22); s22 = s _ (b .s22) }
+
+-- the corrections of up to 64 lines
+pub corrections-small : (lines : ℕ → Line) (C S : ℕ → ℤ) (m n : ℕ) → m ≤ 2 ^ 24 → n ≤ 64 → ((i : ℕ) → i < n → Light m (lines i)) → ((i : ℕ) → natAbs (C i) ≤ 2 ^ 31) → ((i : ℕ) → natAbs (S i) ≤ 2 ^ 31)
+    → Small (correctionsOf (sumOf lines C S n))
+unfolding correctionsOf roundedOf sumsOf
+corrections-small lines C S m n hm h light hc hs =
+    rounded-small (sumsOf (sumOf lines C S n)) (bounded lines C S m n hm h refl (sum-small lines C S m n light hc hs))

@@ -77,22 +77,20 @@ plusLine sums line cosine sine = record {
   s22 = sums .s22 +ℤ term S22 line cosine sine;
 }
 
--- Over the first n of given lines, with given cosines and sines: the lines may be the printed ones or others, the waves the rounded ones, the
--- exact ones or kept ones.
-module _ (lines : ℕ → Line) (cosines sines : ℕ → ℤ) (n : ℕ) where
-  -- "Sum amplitude*100*sine without rounding"
-  unfoldable pub sumOf : Coefficient → ℤ
-  sumOf k = sumTo (λ i. term k (lines i) (cosines i) (sines i)) n
+-- "Sum amplitude*100*sine without rounding", over the first n of given lines with given cosines and sines: the lines may be the printed ones or others,
+-- the waves the rounded ones, the exact ones or kept ones
+unfoldable pub sumOf : (ℕ → Line) → (ℕ → ℤ) → (ℕ → ℤ) → ℕ → Coefficient → ℤ
+sumOf lines cosines sines n k = sumTo (λ i. term k (lines i) (cosines i) (sines i)) n
 
-  -- "nearest of sum/2^30 once"
-  unfoldable pub correctionOf : Coefficient → ℤ
-  correctionOf k = nearest (sumOf k) (2 ^ 30)
+-- "nearest of sum/2^30 once"
+unfoldable pub correctionOf : ℤ → ℤ
+correctionOf sum = nearest sum (2 ^ 30)
 
-  unfoldable pub correctionsOf : Corrections
-  correctionsOf = record {
-    c20 = correctionOf C20;
-    c21 = correctionOf C21;
-    s21 = correctionOf S21;
-    c22 = correctionOf C22;
-    s22 = correctionOf S22;
-  }
+unfoldable pub correctionsOf : (Coefficient → ℤ) → Corrections
+correctionsOf sum = record {
+  c20 = correctionOf (sum C20);
+  c21 = correctionOf (sum C21);
+  s21 = correctionOf (sum S21);
+  c22 = correctionOf (sum C22);
+  s22 = correctionOf (sum S22);
+}

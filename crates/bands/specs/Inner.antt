@@ -2,11 +2,10 @@
 -- being any signed 32-bit numbers; and corrections that no entry in range overflows with.
 use Prim.Native.Nat.{ℕ, _^_, _≤_}
 use lib.IntN.{ℤ, natAbs}
-use Rattle.whole.specs.Nearest.{nearest}
 use Rattle.bands.specs.declared.Corrections.{Corrections}
 use Rattle.bands.specs.declared.Line.{Line}
 use Rattle.bands.specs.declared.Sums.{Sums}
-use Rattle.bands.specs.Bands.{C20, C21, S21, C22, S22, sumOf}
+use Rattle.bands.specs.Bands.{Coefficient, C20, C21, S21, C22, S22, correctionOf}
 
 pub record Room (sum a cosine b sine : ℤ) : Type 0 where
   pub sum-small : natAbs sum ≤ 2 ^ 62
@@ -20,25 +19,8 @@ pub record Light (m : ℕ) (line : Line) : Type 0 where
   pub ip : natAbs (line .ip) ≤ m
   pub op : natAbs (line .op) ≤ m
 
-pub record LineRoom (sums : Sums) (line : Line) (cosine sine : ℤ) : Type 0 where
-  pub c20-small : natAbs (sums .c20) ≤ 2 ^ 62
-  pub c21-small : natAbs (sums .c21) ≤ 2 ^ 62
-  pub s21-small : natAbs (sums .s21) ≤ 2 ^ 62
-  pub c22-small : natAbs (sums .c22) ≤ 2 ^ 62
-  pub s22-small : natAbs (sums .s22) ≤ 2 ^ 62
-  pub ip-small : natAbs (line .ip) ≤ 2 ^ 24
-  pub op-small : natAbs (line .op) ≤ 2 ^ 24
-  pub cosine-small : natAbs cosine ≤ 2 ^ 31
-  pub sine-small : natAbs sine ≤ 2 ^ 31
-
-unfoldable pub sumsOf : (ℕ → Line) → (ℕ → ℤ) → (ℕ → ℤ) → ℕ → Sums
-sumsOf lines cosines sines n = record {
-  c20 = sumOf lines cosines sines n C20;
-  c21 = sumOf lines cosines sines n C21;
-  s21 = sumOf lines cosines sines n S21;
-  c22 = sumOf lines cosines sines n C22;
-  s22 = sumOf lines cosines sines n S22;
-}
+unfoldable pub sumsOf : (Coefficient → ℤ) → Sums
+sumsOf sum = record { c20 = sum C20; c21 = sum C21; s21 = sum S21; c22 = sum C22; s22 = sum S22 }
 
 pub record Bounded (sums : Sums) : Type 0 where
   pub c20 : natAbs (sums .c20) ≤ 2 ^ 62
@@ -47,13 +29,19 @@ pub record Bounded (sums : Sums) : Type 0 where
   pub c22 : natAbs (sums .c22) ≤ 2 ^ 62
   pub s22 : natAbs (sums .s22) ≤ 2 ^ 62
 
+pub record LineRoom (sums : Sums) (line : Line) (cosine sine : ℤ) : Type 0 where
+  pub sums-small : Bounded sums
+  pub line-small : Light (2 ^ 24) line
+  pub cosine-small : natAbs cosine ≤ 2 ^ 31
+  pub sine-small : natAbs sine ≤ 2 ^ 31
+
 unfoldable pub roundedOf : Sums → Corrections
 roundedOf sums = record {
-  c20 = nearest (sums .c20) (2 ^ 30);
-  c21 = nearest (sums .c21) (2 ^ 30);
-  s21 = nearest (sums .s21) (2 ^ 30);
-  c22 = nearest (sums .c22) (2 ^ 30);
-  s22 = nearest (sums .s22) (2 ^ 30);
+  c20 = correctionOf (sums .c20);
+  c21 = correctionOf (sums .c21);
+  s21 = correctionOf (sums .s21);
+  c22 = correctionOf (sums .c22);
+  s22 = correctionOf (sums .s22);
 }
 
 pub record Small (d : Corrections) : Type 0 where

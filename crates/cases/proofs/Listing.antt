@@ -4,9 +4,9 @@ use Prim.Native.Nat.{_^_}
 use lib.IntN.{pos, negℤ}
 use lib.ListN.{replicate}
 use Rattle.arguments.specs.Phase.{modulo, phase}
+use Rattle.bands.specs.Bands.{ofDiurnal, ofLongPeriod, ofSemidiurnal, ofBand, term, sumOf, correctionOf, correctionsOf}
 use Rattle.choices.specs.declared.LoveModel.the-variants.{Elastic, Anelastic}
 use Rattle.doodson.specs.Doodson.{multipliersIn}
-use Rattle.bands.specs.Bands.{ofDiurnal, ofLongPeriod, ofSemidiurnal, ofBand, term, sumOf, correctionOf, correctionsOf}
 use Rattle.lines.specs.Lines.{diurnal, longPeriod, semidiurnal, printed, lineAt, multipliersAt, bandAt, inModel, printedLine}
 use Rattle.listing.specs.Listing.{phasesOf, columns, modelText, modelsText, listingOf}
 use Rattle.step_two.specs.StepTwo.{corrections}

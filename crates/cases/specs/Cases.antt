@@ -8,6 +8,7 @@ use lib.IntN.{ℤ, pos, negℤ}
 use lib.ListN.{replicate, set, take}
 use Rattle.arguments.specs.declared.Multipliers.{Multipliers}
 use Rattle.arguments.specs.declared.Phases.{Phases}
+use Rattle.bands.specs.declared.Corrections.{Corrections}
 use Rattle.choices.specs.declared.Frame.{Frame}
 use Rattle.choices.specs.declared.LoveModel.the-variants.{Anelastic}
 use Rattle.choices.specs.declared.PermanentSystem.the-variants.{TideFree, Zero, Mean}
@@ -18,7 +19,6 @@ use Rattle.refusals.specs.Outcome.{Outcome}
 use Rattle.listing.specs.Listing.{listingOf}
 use Rattle.permanent.specs.Systems.{movedC20}
 use Rattle.sheet.specs.Accepted.{sheetRefusal}
-use Rattle.bands.specs.declared.Corrections.{Corrections}
 use Rattle.step_two.specs.StepTwo.{corrections}
 use Rattle.surfgimlet.specs.Calls.{oceanTide}
 use Rattle.text.specs.Text.{ascii}

@@ -7,6 +7,7 @@ use native.Mathlib.Omega.{arith}
 use lib.IntN.{ℤ, _+ℤ_}
 use lib.ListN.{length, getD}
 use Rattle.arguments.specs.declared.Phases.{Phases}
+use Rattle.bands.specs.declared.Corrections.{Corrections}
 use Rattle.choices.specs.declared.LoveModel.{LoveModel}
 use Rattle.field.specs.Added.{addedAt}
 use Rattle.field.specs.Field.{place, fieldRefusal}
@@ -16,7 +17,6 @@ use Rattle.own.specs.declared.OwnLine.{OwnLine}
 use Rattle.own.specs.Own.{recordsRefusal, ownCorrections}
 use Rattle.refusals.specs.Outcome.{unlessRefused}
 use Rattle.refusals.proofs.Outcomes.{first-none}
-use Rattle.bands.specs.declared.Corrections.{Corrections}
 use Rattle.step_two.specs.StepTwo.{corrections}
 use Rattle.surfgimlet.specs.Calls.{forC, forS, placesC, placesS, fiveCorrected, stepTwo, ownLinesRefusal, ownLines}
 use Rattle.surfgimlet.proofs.Five.{c-run, s-run}

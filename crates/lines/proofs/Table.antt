@@ -12,16 +12,16 @@ use lib.ListN.{length, getD}
 use mir.Syntax.{w64}
 use mir.Val.{toZ, ofZ}
 use mir.Facts.{toZ-ofZ}
-use Rattle.whole.proofs.Parts.{fits-abs, abs-product}
 use Rattle.bands.specs.declared.Band.{Band}
 use Rattle.bands.specs.declared.Band.the-variants.{Diurnal, LongPeriod, Semidiurnal}
+use Rattle.bands.specs.Bands.{inCounts}
+use Rattle.bands.proofs.Terms.{minus-same}
+use Rattle.whole.proofs.Parts.{fits-abs, abs-product}
 use Rattle.choices.specs.declared.LoveModel.{LoveModel}
 use Rattle.choices.specs.declared.LoveModel.the-variants.{Elastic, Anelastic}
 use Rattle.whole.proofs.Tests.{and-left, and-right}
 use Rattle.doodson.specs.Doodson.{digit, multipliersIn}
 use Rattle.limits.specs.Limits.{isDoodson}
-use Rattle.bands.specs.Bands.{inCounts}
-use Rattle.bands.proofs.Terms.{minus-same}
 use Rattle.lines.specs.Lines.{diurnal, longPeriod, semidiurnal, printed, lineAt, multipliersAt, bandAt, inModel, printedLine, nowhere, Printed}
 use Rattle.lines.specs.Inner.{digitsOf, numberIn, multipliersBy, digits, firsts, seconds}
 

@@ -10,9 +10,9 @@ use lib.Dec.{eqb}
 use lib.ListN.{length, drop, length-append}
 use lib.Seq.{sets-eq}
 use Rattle.arguments.specs.declared.Phases.{Phases}
-use Rattle.choices.specs.declared.LoveModel.the-variants.{Elastic, Anelastic}
 use Rattle.bands.specs.declared.Corrections.{Corrections}
 use Rattle.bands.specs.Inner.{Small}
+use Rattle.choices.specs.declared.LoveModel.the-variants.{Elastic, Anelastic}
 use Rattle.step_two.proofs.Sizes.{corrections-small}
 use Rattle.text.specs.Inner.{Put}
 use Rattle.text.specs.Text.{ascii}

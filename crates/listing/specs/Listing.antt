@@ -7,8 +7,8 @@ use lib.Dec.{eqb}
 use lib.IntN.{ℤ}
 use lib.ListN.{length, drop}
 use Rattle.arguments.specs.declared.Phases.{Phases}
-use Rattle.choices.specs.declared.LoveModel.the-variants.{Elastic, Anelastic}
 use Rattle.bands.specs.declared.Corrections.{Corrections}
+use Rattle.choices.specs.declared.LoveModel.the-variants.{Elastic, Anelastic}
 use Rattle.step_two.specs.StepTwo.{corrections}
 use Rattle.text.specs.Text.{ascii, number}
 use Rattle.words.specs.Words.{wordAt}

@@ -47,7 +47,7 @@ module _ (phases : Phases) (l : List OwnLine) where
 
   -- what i records in range add up to
   abbrev summed : ℕ → Sums
-  summed i = sumsOf lines C S i
+  summed i = sumsOf (sumOf lines C S i)
 
   light : (n : ℕ) → allTo good n ≡ true → (i : ℕ) → i < n → Light 10000000 (lines i)
   light n e i h = record-light (recordAt l i) (all-at good n e i h)

@@ -18,7 +18,7 @@ use Rattle.refusals.specs.Numbers.{answerNumber}
 use Rattle.wave.specs.Wave.{sin, cos}
 use Rattle.own.specs.declared.OwnLine.{OwnLine}
 use Rattle.own.specs.declared.Summed.{Summed}
-use Rattle.own.specs.Own.{multipliersOf, lineOf, inRange, recordAt, ownPhase, recordsRefusal}
+use Rattle.own.specs.Own.{multipliersOf, lineOf, inRange, recordAt, recordsRefusal, ownSum}
 
 unfoldable pub recordsRead : ℕ → ℕ
 recordsRead count = cond (isRecordCount count) count 0
@@ -48,5 +48,5 @@ summedTo phases l (suc i) = withRecord phases (summedTo phases l i) (recordAt l 
 -- all of them: the list's number, and where it is accepted its five sums
 pub record Totals (phases : Phases) (l : List OwnLine) (r : Summed) : Type 0 where
   pub number : answerNumber (r .answer) ≡ recordsRefusal l
-  pub sums : recordsRefusal l ≡ 0 → r .sums ≡ sumsOf (λ i. lineOf (recordAt l i)) (λ i. cos (ownPhase phases l i)) (λ i. sin (ownPhase phases l i)) (length l)
+  pub sums : recordsRefusal l ≡ 0 → r .sums ≡ sumsOf (ownSum sin cos phases l)
   pub bounded : Bounded (r .sums)

@@ -58,4 +58,4 @@ ownSum S C phases l = sumOf (λ i. lineOf (recordAt l i)) (λ i. C (ownPhase pha
 
 -- "A call of its own rounds each sum once"
 unfoldable pub ownCorrections : Phases → List OwnLine → Corrections
-ownCorrections phases l = correctionsOf (λ i. lineOf (recordAt l i)) (λ i. cos (ownPhase phases l i)) (λ i. sin (ownPhase phases l i)) (length l)
+ownCorrections phases l = correctionsOf (ownSum sin cos phases l)

@@ -76,10 +76,12 @@ fn line_of(line: OwnLine) -> Line
     requires { ⌜ inRange line ≡ true ⌝ }
     ensures { λ r. ⌜ r ≡ lineOf line ⌝ }
 {
+    let ip = line.ip * 100;
+    let op = line.op * 100;
     Line {
         band: band_of(line.tau),
-        ip: line.ip * 100,
-        op: line.op * 100,
+        ip,
+        op,
     }
 }
 

@@ -11,7 +11,7 @@ use Rattle.bands.specs.declared.Line.{Line}
 use Rattle.bands.specs.Inner.{Light}
 use Rattle.bands.specs.Bands.{Coefficient, C20, C21, S21, C22, S22, correctionOf, correctionsOf}
 use Rattle.own.specs.declared.OwnLine.{OwnLine}
-use Rattle.own.specs.Own.{lineOf, recordAt, ownPhase, recordsRefusal, ownCorrections}
+use Rattle.own.specs.Own.{lineOf, recordAt, ownPhase, recordsRefusal, ownSum, ownCorrections}
 use Rattle.own.proofs.Records.{record-light}
 use Rattle.own.proofs.Table.{of-record, records-table}
 use Rattle.series.specs.Exact.{scale}
@@ -45,7 +45,7 @@ module _ (phases : Phases) (l : List OwnLine) (passed : recordsRefusal l ≡ 0) 
         few,
       )
 
-  each : (k : Coefficient) → withinThreeCounts (correctionOf lines (λ i. cos (ownPhase phases l i)) (λ i. sin (ownPhase phases l i)) (length l) k) (exactSum phases l k)
+  each : (k : Coefficient) → withinThreeCounts (correctionOf (ownSum sin cos phases l k)) (exactSum phases l k)
   each k = close (amplitudes lines (length l)) _ (exactSum phases l k) weight (lines-close lines (ownPhase phases l) (length l) .each k)
 
   -- for every accepted list and all six phases

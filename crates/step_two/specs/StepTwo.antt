@@ -13,4 +13,4 @@ abbrev pub printedSum : (ℕ → ℤ) → (ℕ → ℤ) → Phases → LoveModel
 printedSum S C phases love = sumOf (printedLine love) (λ i. C (linePhase phases i)) (λ i. S (linePhase phases i)) 49
 
 unfoldable pub corrections : Phases → LoveModel → Corrections
-corrections phases love = correctionsOf (printedLine love) (λ i. cos (linePhase phases i)) (λ i. sin (linePhase phases i)) 49
+corrections phases love = correctionsOf (printedSum sin cos phases love)

@@ -1,5 +1,6 @@
 // Step two of the solid tide (001, Tables 6.2; document 01, "Step two"): what the printed lines add to degree two.
 ghost use mathlib.Core.Path.{_≡_};
+ghost use Rattle.bands.specs.Bands.{sumOf};
 ghost use Rattle.bands.specs.Inner.{sumsOf, Bounded};
 ghost use Rattle.hour.specs.Inner.{kept};
 ghost use Rattle.lines.specs.Lines.{printedLine};
@@ -11,7 +12,7 @@ use choices::LoveModel;
 
 // The five sums of the printed lines over given waves.
 pub fn sums_of(love: LoveModel, cosines: &[i32; 49], sines: &[i32; 49]) -> Sums
-    ensures { λ r. ⌜ (r ≡ sumsOf (printedLine love) (kept (now (cosines .entry))) (kept (now (sines .entry))) 49) × Bounded r ⌝ }
+    ensures { λ r. ⌜ (r ≡ sumsOf (sumOf (printedLine love) (kept (now (cosines .entry))) (kept (now (sines .entry))) 49)) × Bounded r ⌝ }
 {
     let tables = lines::printed_tables();
     let first = tables.first;

@@ -21,7 +21,7 @@ use Rattle.whole.specs.Sum.{weightTo}
 use Rattle.whole.proofs.Ring.{equal, !, #, _⊕_, _⊖_, _⊗_}
 use Rattle.whole.proofs.Running.{weight-size}
 use Rattle.whole.proofs.Within.{within-nearest}
-use Rattle.step_two.specs.StepTwo.{corrections}
+use Rattle.step_two.specs.StepTwo.{printedSum, corrections}
 use Rattle.step_two_bound.specs.Exact.{partsOfACount, lessThanOneCount, amplitudes, byAmplitudes, LinesCloseToExact, exactSum, CloseToExact}
 
 -- what a coefficient takes of the lines is no more than they have
@@ -70,8 +70,7 @@ printed-weight love =
       weight-size (λ i. printedLine love i .op) 472000 49 (λ i l. printed-small love i .1),
     )
 
-printed-close : (phases : Phases) (love : LoveModel) (k : Coefficient)
-    → lessThanOneCount (correctionOf (printedLine love) (λ i. cos (linePhase phases i)) (λ i. sin (linePhase phases i)) 49 k) (exactSum phases love k)
+printed-close : (phases : Phases) (love : LoveModel) (k : Coefficient) → lessThanOneCount (correctionOf (printedSum sin cos phases love k)) (exactSum phases love k)
 printed-close phases love k =
     close (amplitudes (printedLine love) 49) _ (exactSum phases love k) (printed-weight love)
     (lines-close (printedLine love) (linePhase phases) 49 .each k)

@@ -30,7 +30,7 @@ byAmplitudes total correction exact = natAbs (correction *ℤ pos partsOfACount 
 -- so for any lines, any number of them and any phases
 pub record LinesCloseToExact (lines : ℕ → Line) (phase : ℕ → ℕ) (n : ℕ) : Type 0 where
   pub each : (k : Coefficient) → byAmplitudes (amplitudes lines n)
-      (correctionOf lines (λ i. cos (phase i)) (λ i. sin (phase i)) n k)
+      (correctionOf (sumOf lines (λ i. cos (phase i)) (λ i. sin (phase i)) n k))
       (sumOf lines (λ i. exact-cos (phase i)) (λ i. exact-sin (phase i)) n k)
 
 -- the printed lines' exact sums

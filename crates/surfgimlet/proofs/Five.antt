@@ -8,13 +8,13 @@ use lib.ListN.{length, getD}
 use mir.Syntax.{w64}
 use mir.Facts.{toZ-ofZ}
 use mir.Val.{toZ, ofZ}
+use Rattle.bands.specs.declared.Corrections.{Corrections}
+use Rattle.bands.specs.Inner.{Small as SmallCorrections}
 use Rattle.field.specs.Added.{addedAt}
 use Rattle.field.specs.Field.{fieldRefusal}
 use Rattle.field.specs.Inner.{Small, addedFrom}
 use Rattle.field.proofs.Accepted.{accepted-field, degree-two}
 use Rattle.field.proofs.Added.{the-places, at-run}
-use Rattle.bands.specs.declared.Corrections.{Corrections}
-use Rattle.bands.specs.Inner.{Small as SmallCorrections}
 use Rattle.refusals.specs.Outcome.{Gives}
 use Rattle.refusals.proofs.Outcomes.{gives-new, gives-kept}
 use Rattle.whole.proofs.Parts.{fits-abs}

@@ -7,7 +7,7 @@ use borrow.Author.Tests.{ne-eqb}
 use lib.IntN.{ℤ}
 use Rattle.arguments.specs.declared.Phases.{Phases}
 use Rattle.bands.specs.declared.Corrections.{Corrections}
-use Rattle.bands.specs.Bands.{correctionOf, correctionsOf}
+use Rattle.bands.specs.Bands.{correctionsOf}
 use Rattle.bands.specs.Inner.{sumsOf, roundedOf}
 use Rattle.field.specs.Field.{fieldRefusal}
 use Rattle.refusals.specs.Numbers.{answerNumber}
@@ -21,7 +21,7 @@ use Rattle.surfgimlet.specs.Calls.{fiveCorrected, ownLines, ownLinesRefu
 
 -- an accepted list: the nearest of its sums are its corrections
 rounded : (phases : Phases) (lines : List OwnLine) (sum : Summed) → Totals phases lines sum → recordsRefusal lines ≡ 0 → roundedOf (sum .sums) ≡ ownCorrections phases lines
-unfolding roundedOf sumsOf correctionOf correctionsOf ownCorrections
+unfolding roundedOf sumsOf correctionsOf ownCorrections
 rounded phases lines sum t e = ap roundedOf (t .sums e)
 
 -- two outcomes of one number, whose corrections are the same where the number is 0

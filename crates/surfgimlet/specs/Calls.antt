@@ -3,6 +3,7 @@ use mathlib.Core.List.{List, [], _∷_}
 use Prim.Native.Nat.{ℕ}
 use lib.IntN.{ℤ}
 use Rattle.arguments.specs.declared.Phases.{Phases}
+use Rattle.bands.specs.declared.Corrections.{Corrections}
 use Rattle.bodies.specs.declared.Body.{Body}
 use Rattle.choices.specs.declared.Frame.{Frame}
 use Rattle.choices.specs.declared.LoveModel.{LoveModel}
@@ -18,7 +19,6 @@ use Rattle.refusals.specs.Told.Told.{accepted, refused}
 use Rattle.sheet.specs.Accepted.{sheetRefusal}
 use Rattle.sheet.specs.Sheet.{placeCount}
 use Rattle.step_one.specs.StepOne.{Counts, places, corrections as bodyCorrections}
-use Rattle.bands.specs.declared.Corrections.{Corrections}
 use Rattle.step_two.specs.StepTwo.{corrections as lineCorrections}
 
 -- ---- step one: refusals 1, 2, then the Moon's 3, 4, 5, the Sun's, and 6

@@ -2,14 +2,14 @@
 // A field of degree n is two lent lists of counts of 10^-15, C and S, of (n+1)(n+2)/2 entries, place (n,m) at n(n+1)/2+m.
 // A call over a field tests, works out and adds. It answers Accepted, or Refused with every entry of both lists as it was.
 ghost use mathlib.Core.Path.{_≡_};
+ghost use Rattle.bands.specs.Inner.{Bounded, roundedOf};
 ghost use Rattle.doodson.specs.Doodson.{readDoodson, writeDoodson, tellsRead, tellsWritten};
+ghost use Rattle.field.specs.Added.{addedAt};
+ghost use Rattle.field.specs.Field.{fieldRefusal};
 ghost use Rattle.lines.specs.Lines.{findLine, tells as tellsSought};
 ghost use Rattle.permanent.specs.Systems.{movedC20, tells as tellsMoved};
 ghost use Rattle.refusals.specs.Numbers.{answerNumber};
 ghost use Rattle.refusals.specs.Outcome.{Gives, firstOf};
-ghost use Rattle.bands.specs.Inner.{Bounded, roundedOf};
-ghost use Rattle.field.specs.Added.{addedAt};
-ghost use Rattle.field.specs.Field.{fieldRefusal};
 ghost use Rattle.surfgimlet.specs.Calls.{forC, forS, placesC, placesS, fiveCorrected, stepOne, stepTwo, ownLines, oceanTide};
 ghost use Rattle.surfgimlet.specs.Inner.{FiveReady};
 use arguments::Multipliers;

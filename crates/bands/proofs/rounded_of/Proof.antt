@@ -10,6 +10,7 @@ use mir.Facts.{toZ-ofZ}
 use Rattle.whole.specs.Nearest.{nearest}
 use Rattle.whole.proofs.Machine.{back}
 use Rattle.whole.proofs.Parts.{fits-abs}
+use Rattle.bands.specs.Bands.{correctionOf}
 use Rattle.bands.specs.Inner.{roundedOf}
 use Rattle.bands.proofs.rounded_of.Statement.{statement}
 use Rattle.bands.proofs.rounded_of.Tie as tie
@@ -23,7 +24,7 @@ answer : {r : ℤ} (x : ℤ) → mag r < 2 ^ 63 → r ≡ nearest (toZ w64 (ofZ 
 answer {r} x m e h = back w64 r m ∙ e ∙ ap (λ (z : ℤ). nearest z (2 ^ 30)) (toZ-ofZ (fits-abs w64 x (omega arith)))
 
 returns : tie.Need-returns
-unfolding roundedOf
+unfolding roundedOf correctionOf
 returns c =
     let n2 = c .before .before .before .before .before .before in
     let b = n2 .before .before .before .before .pre in

@@ -11,10 +11,10 @@ use Rattle.bands.proofs.with_line.Statement.{statement}
 use Rattle.bands.proofs.with_line.Tie as tie
 
 sub-minus-ip : tie.Need-sub-minus-ip
-sub-minus-ip c = minus-fits (c .before .before .args .line .ip) (c .before .before .pre .ip-small)
+sub-minus-ip c = minus-fits (c .before .before .args .line .ip) (c .before .before .pre .line-small .ip)
 
 sub-minus-op : tie.Need-sub-minus-op
-sub-minus-op c = minus-fits (c .before .before .args .line .op) (c .before .before .pre .op-small)
+sub-minus-op c = minus-fits (c .before .before .args .line .op) (c .before .before .pre .line-small .op)
 
 enum-told : tie.Need-enum-told
 enum-told c = search needs
@@ -37,16 +37,16 @@ module _ (c : tie.Start) where
   held z = toZ w64 (ofZ w64 z)
 
   ip-read : held ip ≡ ip
-  ip-read = read ip (omega (arith, c .pre .ip-small))
+  ip-read = read ip (omega (arith, c .pre .line-small .ip))
 
   op-read : held op ≡ op
-  op-read = read op (omega (arith, c .pre .op-small))
+  op-read = read op (omega (arith, c .pre .line-small .op))
 
   minus-ip-read : held (pos 0 -ℤ held ip) ≡ negℤ ip
-  minus-ip-read = minus-read ip (c .pre .ip-small)
+  minus-ip-read = minus-read ip (c .pre .line-small .ip)
 
   minus-op-read : held (pos 0 -ℤ held op) ≡ negℤ op
-  minus-op-read = minus-read op (c .pre .op-small)
+  minus-op-read = minus-read op (c .pre .line-small .op)
 
   cosine-read : held (c .args .cosine) ≡ c .args .cosine
   cosine-read = read (c .args .cosine) (omega (arith, c .pre .cosine-small))
@@ -77,23 +77,23 @@ returns c =
     let s = c .before .before .before .before .before .before .before .before in
     let p = s .pre in
     diurnal (sums s) (s .args .line) (s .args .cosine) (s .args .sine) (c .before .before .before .before .enum-told .given .1)
-    (grown (read (sums s .c21) (p .c21-small)) (op-read s) (cosine-read s) (ip-read s) (sine-read s) (c .before .before .plus-wave .ensures))
-    (grown (read (sums s .s21) (p .s21-small)) (ip-read s) (cosine-read s) (minus-op-read s) (sine-read s) (c .plus-wave2 .ensures))
+    (grown (read (sums s .c21) (p .sums-small .c21)) (op-read s) (cosine-read s) (ip-read s) (sine-read s) (c .before .before .plus-wave .ensures))
+    (grown (read (sums s .s21) (p .sums-small .s21)) (ip-read s) (cosine-read s) (minus-op-read s) (sine-read s) (c .plus-wave2 .ensures))
 
 returns-2 : tie.Need-returns-2
 returns-2 c =
     let s = c .before .before .before .before .before .before in
     let p = s .pre in
     long-period (sums s) (s .args .line) (s .args .cosine) (s .args .sine) (c .before .before .enum-told2 .given .1)
-    (grown (read (sums s .c20) (p .c20-small)) (ip-read s) (cosine-read s) (minus-op-read s) (sine-read s) (c .plus-wave3 .ensures))
+    (grown (read (sums s .c20) (p .sums-small .c20)) (ip-read s) (cosine-read s) (minus-op-read s) (sine-read s) (c .plus-wave3 .ensures))
 
 returns-3 : tie.Need-returns-3
 returns-3 c =
     let s = c .before .before .before .before .before .before .before .before in
     let p = s .pre in
     semidiurnal (sums s) (s .args .line) (s .args .cosine) (s .args .sine) (c .before .before .before .before .enum-told3 .given .1)
-    (grown (read (sums s .c22) (p .c22-small)) (ip-read s) (cosine-read s) (minus-op-read s) (sine-read s) (c .before .before .plus-wave4 .ensures))
-    (grown (read (sums s .s22) (p .s22-small)) (minus-op-read s) (cosine-read s) (minus-ip-read s) (sine-read s) (c .plus-wave5 .ensures))
+    (grown (read (sums s .c22) (p .sums-small .c22)) (ip-read s) (cosine-read s) (minus-op-read s) (sine-read s) (c .before .before .plus-wave4 .ensures))
+    (grown (read (sums s .s22) (p .sums-small .s22)) (minus-op-read s) (cosine-read s) (minus-ip-read s) (sine-read s) (c .plus-wave5 .ensures))
 
 pub with-line-spec : {M : Type 1} → statement M
 with-line-spec =

@@ -10,10 +10,9 @@ use mir.Val.{toZ, ofZ}
 use mir.Facts.{toZ-ofZ}
 use Rattle.arguments.specs.declared.Phases.{Phases}
 use Rattle.arguments.specs.Phase.{phase}
-use Rattle.bands.specs.declared.Line.{Line}
 use Rattle.bands.specs.declared.Sums.{Sums}
 use Rattle.bands.specs.Bands.{plusLine}
-use Rattle.bands.specs.Inner.{LineRoom, Bounded}
+use Rattle.bands.proofs.Sizes.{lighter}
 use Rattle.refusals.specs.declared.Refusal.{Refusal}
 use Rattle.refusals.specs.declared.Refusal.the-variants.{RecordValue}
 use Rattle.refusals.specs.declared.Answer.{Answer}
@@ -51,21 +50,8 @@ held z = toZ w64 (ofZ w64 z)
 wave-read : {w : ℤ} (v : ℤ) → w ≡ v → natAbs v ≤ 2 ^ 30 → held w ≡ v
 wave-read v e h = ap held e ∙ toZ-ofZ (fits-abs w64 v (omega arith))
 
-module _ {sums : Sums} {line : Line} {c s : ℤ} (b : Bounded sums) (l : OwnLine) (f : inRange l ≡ true) (L : line ≡ lineOf l) (p : ℕ) (C : c ≡ cos p) (S : s ≡ sin p) where
-  has-room : LineRoom sums line c s
-  has-room =
-      let light = record-light l f in
-      record {
-        c20-small = b .c20;
-        c21-small = b .c21;
-        s21-small = b .s21;
-        c22-small = b .c22;
-        s22-small = b .s22;
-        ip-small = rw L (omega (arith, light .ip));
-        op-small = rw L (omega (arith, light .op));
-        cosine-small = rw C (omega (arith, cos-size p));
-        sine-small = rw S (omega (arith, sin-size p));
-      }
+wave-small : {w : ℤ} (v : ℤ) → w ≡ v → natAbs v ≤ 2 ^ 30 → natAbs w ≤ 2 ^ 31
+wave-small v e h = rw e (omega arith)
 
 -- a record in range, once its line and its wave are had
 module _ (c : tie.After-line-of) where
@@ -96,7 +82,14 @@ line-of-requires c κs = sym (c .before .before .before .before .is-in-range .en
 with-line-requires : tie.Need-with-line-requires
 with-line-requires c κs =
     let a = c .before .before in
-    has-room (start a .pre) (l a) (in-range a) (a .line-of .ensures) (at a) (cosine a) (sine a)
+    let cosine-small = wave-small (cos (at a)) (cosine a) (cos-size (at a)) in
+    let sine-small = wave-small (sin (at a)) (sine a) (sin-size (at a)) in
+    record {
+      sums-small = start a .pre;
+      line-small = rw (a .line-of .ensures) (lighter (omega arith) (record-light (l a) (in-range a)));
+      cosine-small = search (cosine-small, sine-small);
+      sine-small = search (cosine-small, sine-small);
+    }
 
 returns : tie.Need-returns
 returns c =

@@ -1,15 +1,12 @@
 -- The waves kept give the whole sums, each rounded once.
 use borrow.Author.Needs.{needs}
 use mathlib.Core.Path.{_≡_, ap, _∙_}
-use Prim.Native.Nat.{_^_}
-use lib.IntN.{ℤ}
 use Rattle.bands.specs.Bands.{Coefficient, C20, C21, S21, C22, S22, sumOf, correctionOf, correctionsOf}
 use Rattle.bands.specs.Inner.{sumsOf, roundedOf}
 use Rattle.hour.specs.Inner.{kept}
-use Rattle.lines.specs.Lines.{linePhase, printedLine}
+use Rattle.lines.specs.Lines.{printedLine}
 use Rattle.wave.specs.Wave.{sin, cos}
-use Rattle.whole.specs.Nearest.{nearest}
-use Rattle.step_two.specs.StepTwo.{corrections}
+use Rattle.step_two.specs.StepTwo.{printedSum, corrections}
 use Rattle.step_two.proofs.Unused.{waved-sum}
 use Rattle.step_two.proofs.corrections_of.Statement.{statement}
 use Rattle.step_two.proofs.corrections_of.Tie as tie
@@ -18,15 +15,14 @@ rounded-of-requires : tie.Need-rounded-of-requires
 rounded-of-requires c κs = c .sums-of .ensures .1
 
 returns : tie.Need-returns
-unfolding corrections correctionsOf correctionOf roundedOf sumsOf
+unfolding corrections correctionsOf roundedOf sumsOf
 returns c =
     let a = c .before .before .before .before .before .before .before .args in
     let w = c .before .before .before .before .fill-waves in
     let C = w .last .1 .1 .0 in
     let S = w .last .1 .1 .1 .0 in
     let same = waved-sum (a .phases) (a .love) C S (w .ensures) in
-    let n : (k : Coefficient) → nearest (sumOf (printedLine (a .love)) (kept C) (kept S) 49 k) (2 ^ 30) ≡ nearest (sumOf (printedLine (a .love)) (λ i. cos (linePhase (a .phases) i)) (λ i. sin (linePhase (a .phases) i)) 49 k) (2 ^ 30)
-    = λ k. ap (λ (z : ℤ). nearest z (2 ^ 30)) (same k) in
+    let n : (k : Coefficient) → correctionOf (sumOf (printedLine (a .love)) (kept C) (kept S) 49 k) ≡ correctionOf (printedSum sin cos (a .phases) (a .love) k) = λ k. ap correctionOf (same k) in
     c .rounded-of .ensures
     ∙ ap roundedOf (c .before .sums-of .ensures .0)
     ∙ (λ j. record { c20 = n C20 j; c21 = n C21 j; s21 = n S21 j; c22 = n C22 j; s22 = n S22 j })

@@ -4,6 +4,7 @@ use mathlib.Core.Path.{_≡_, refl, ap, _∙_}
 use Prim.Native.Nat.{ℕ, _-_, _*_, _^_, _≤_}
 use native.Mathlib.Omega.{arith}
 use lib.IntN.{ℤ, natAbs}
+use Rattle.bands.specs.declared.Sums.{Sums}
 use Rattle.bands.specs.Bands.{Coefficient, sumOf}
 use Rattle.bands.specs.Inner.{sumsOf}
 use Rattle.bands.proofs.Sizes.{sum-grows, bounded, line-room, line-added}
@@ -17,7 +18,7 @@ use Rattle.step_two.proofs.sums_of.Tie as tie
 abbrev Inv-loop : tie.InvT-loop
 Inv-loop love cosines sines first second sums₀ i₀ sums i =
     (i ≤ 49)
-    × (sums ≡ sumsOf (printedLine love) (kept cosines) (kept sines) i)
+    × (sums ≡ sumsOf (sumOf (printedLine love) (kept cosines) (kept sines) i))
     × ((k : Coefficient) → natAbs (sumOf (printedLine love) (kept cosines) (kept sines) i k) ≤ i * (472000 * 2 ^ 32))
 
 abbrev μ-loop : tie.MeasureT-loop
@@ -85,7 +86,7 @@ returns c =
     let l = c .before .loop in
     let a = c .before .before .before .before .before .args in
     let e : l .i ≡ 49 = omega arith in
-    let W = sumsOf (printedLine (a .love)) (kept (a .cosines .now)) (kept (a .sines .now)) in
+    let W : ℕ → Sums = λ n. sumsOf (sumOf (printedLine (a .love)) (kept (a .cosines .now)) (kept (a .sines .now)) n) in
     (l .inv .1 ∙ ap W e, bounded (printedLine (a .love)) (kept (a .cosines .now)) (kept (a .sines .now)) 472000 (l .i) (omega arith) (omega (arith, l .inv .0)) (l .inv .1) (l .inv .2))
 
 pub sums-of-spec : {M : Type 1} → statement M
