@@ -1,4 +1,4 @@
--- Document 01, "Step two (001, Tables 6.2)", and document 02, T-01: which amplitude of a line goes with the cosine and which with the sine, and with
+-- Document 01, "Step two (001, Tables 6.2)", and document 02, T-01 and T-02: which amplitude of a line goes with the cosine and which with the sine, and with
 -- which sign; the sums over lines, and the corrections.
 use Prim.Native.Nat.{ℕ, _^_}
 use lib.IntN.{ℤ, pos, negℤ, _+ℤ_, _*ℤ_}
@@ -31,7 +31,7 @@ abbrev nothing : Taken
 nothing = record { cosine = pos 0; sine = pos 0 }
 
 -- "In-phase amplitudes follow the printed band rules; op, the amplitude times the imaginary part, enters as 001's equations give it"
--- "C20 -op*sine", and ip*cosine as printed
+-- "C20 must take ip*cosine - op*sine"
 unfoldable pub ofLongPeriod : Coefficient → ℤ → ℤ → Taken
 ofLongPeriod C20 ip op = record { cosine = ip; sine = negℤ op }
 ofLongPeriod C21 ip op = nothing

@@ -15,7 +15,6 @@ use mir.Facts.{toZ-ofZ}
 use Rattle.bands.specs.declared.Band.{Band}
 use Rattle.bands.specs.declared.Band.the-variants.{Diurnal, LongPeriod, Semidiurnal}
 use Rattle.bands.specs.Bands.{inCounts}
-use Rattle.bands.proofs.Terms.{minus-same}
 use Rattle.whole.proofs.Parts.{fits-abs, abs-product}
 use Rattle.choices.specs.declared.LoveModel.{LoveModel}
 use Rattle.choices.specs.declared.LoveModel.the-variants.{Elastic, Anelastic}
@@ -76,7 +75,7 @@ unfolding inModel
 model-small Diurnal Elastic a b ha hb = (counts-small a ha, omega arith)
 model-small Diurnal Anelastic a b ha hb = (counts-small b hb, omega arith)
 model-small LongPeriod Elastic a b ha hb = (omega arith, omega arith)
-model-small LongPeriod Anelastic a b ha hb = (counts-small a ha, omega (arith, minus-same (inCounts b), counts-small b hb))
+model-small LongPeriod Anelastic a b ha hb = (counts-small a ha, counts-small b hb)
 model-small Semidiurnal love a b ha hb = (counts-small a ha, omega arith)
 
 pub printed-small : (love : LoveModel) (i : ℕ) → (natAbs (printedLine love i .ip) ≤ 472000) × (natAbs (printedLine love i .op) ≤ 472000)

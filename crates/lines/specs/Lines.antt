@@ -125,13 +125,12 @@ linePhase phases i = phase (multipliersAt i) phases
 unfoldable pub bandAt : ℕ → Band
 bandAt i = cond (ltb i 26) Diurnal (cond (ltb i 47) LongPeriod Semidiurnal)
 
--- diurnal, elastic/anelastic; long period, anelastic only, ip/op; semidiurnal, both models
--- "C20 takes ip*cosine + op*sine (caption of 6.2b)": the printed op is minus the out-of-phase amplitude of the band rules
+-- diurnal, elastic/anelastic; long period, anelastic only, ip/op; semidiurnal, both models; "with the table's numbers kept" (document 02, T-02)
 unfoldable pub inModel : Band → LoveModel → ℤ → ℤ → BandLine
 inModel Diurnal Elastic a b = record { band = Diurnal; ip = inCounts a; op = pos 0 }
 inModel Diurnal Anelastic a b = record { band = Diurnal; ip = inCounts b; op = pos 0 }
 inModel LongPeriod Elastic a b = record { band = LongPeriod; ip = pos 0; op = pos 0 }
-inModel LongPeriod Anelastic a b = record { band = LongPeriod; ip = inCounts a; op = negℤ (inCounts b) }
+inModel LongPeriod Anelastic a b = record { band = LongPeriod; ip = inCounts a; op = inCounts b }
 inModel Semidiurnal love a b = record { band = Semidiurnal; ip = inCounts a; op = pos 0 }
 
 unfoldable pub printedLine : LoveModel → ℕ → BandLine

@@ -224,7 +224,7 @@ fn band_at(i: usize) -> Band
     }
 }
 
-// A line of a band in a Love model, from its two printed amplitudes. A long-period op is printed with the other sign (caption of 6.2b).
+// A line of a band in a Love model, from its two printed amplitudes.
 fn line_in(band: Band, love: LoveModel, first: i64, second: i64) -> Line
     requires { ⌜ (natAbs first ≤ 4720) × (natAbs second ≤ 4720) ⌝ }
     ensures { λ r. ⌜ r ≡ inModel band love first second ⌝ }
@@ -253,7 +253,7 @@ fn line_in(band: Band, love: LoveModel, first: i64, second: i64) -> Line
             LoveModel::Anelastic => Line {
                 band: Band::LongPeriod,
                 ip: elastic,
-                op: -anelastic,
+                op: anelastic,
             },
         },
         Band::Semidiurnal => Line {

@@ -3,14 +3,12 @@ use borrow.Author.Needs.{needs}
 use mathlib.Core.Path.{_≡_, refl}
 use Prim.Native.Nat.{_≤_}
 use native.Mathlib.Omega.{arith}
-use lib.IntN.{ℤ, pos, negℤ, natAbs, _-ℤ_, _*ℤ_}
+use lib.IntN.{ℤ, pos, natAbs, _*ℤ_}
 use mir.Syntax.{w64}
 use mir.Val.{SFits, toZ, ofZ}
 use mir.Facts.{toZ-ofZ}
-use Rattle.bands.proofs.Terms.{minus-fits, minus-read}
 use Rattle.whole.proofs.Parts.{fits-abs, abs-product}
 use Rattle.lines.specs.Lines.{inModel}
-use Rattle.lines.proofs.Table.{counts-small}
 use Rattle.lines.proofs.line_in.Statement.{statement}
 use Rattle.lines.proofs.line_in.Tie as tie
 
@@ -20,26 +18,11 @@ counts-fit a h = fits-abs w64 (a *ℤ pos 100) (omega (arith, abs-product a (pos
 counts-read : (a : ℤ) → natAbs a ≤ 4720 → toZ w64 (ofZ w64 (toZ w64 (ofZ w64 a) *ℤ pos 100)) ≡ a *ℤ pos 100
 counts-read a h = rw (toZ-ofZ (fits-abs w64 a (omega arith)), toZ-ofZ (counts-fit a h)) refl
 
--- a printed amplitude with its sign turned
-abbrev turned : ℤ → ℤ
-turned a = pos 0 -ℤ toZ w64 (ofZ w64 (toZ w64 (ofZ w64 a) *ℤ pos 100))
-
-turned-fits : (a : ℤ) → natAbs a ≤ 4720 → SFits w64 (turned a)
-turned-fits a h = rw (toZ-ofZ (fits-abs w64 a (omega arith))) (minus-fits (a *ℤ pos 100) (omega (arith, counts-small a h)))
-
-turned-read : (a : ℤ) → natAbs a ≤ 4720 → toZ w64 (ofZ w64 (turned a)) ≡ negℤ (a *ℤ pos 100)
-turned-read a h = rw (toZ-ofZ (fits-abs w64 a (omega arith))) (minus-read (a *ℤ pos 100) (omega (arith, counts-small a h)))
-
 mul-elastic : tie.Need-mul-elastic
 mul-elastic c = rw (toZ-ofZ (c .fits .first)) (counts-fit (c .args .first) (c .pre .0))
 
 mul-anelastic : tie.Need-mul-anelastic
 mul-anelastic c = rw (toZ-ofZ (c .fits .second)) (counts-fit (c .args .second) (c .pre .1))
-
-sub-t14 : tie.Need-sub-t14
-sub-t14 c =
-    let s = c .before .before .before .before in
-    turned-fits (s .args .second) (s .pre .1)
 
 returns : tie.Need-returns
 unfolding inModel
@@ -61,7 +44,7 @@ returns-4 : tie.Need-returns-4
 unfolding inModel
 returns-4 c =
     let s = c .before .before .before .before in
-    rw (c .before .before .enum-told4 .given .1, c .enum-told6 .given .1, turned-read (s .args .second) (s .pre .1), counts-read (s .args .first) (s .pre .0)) refl
+    rw (c .before .before .enum-told4 .given .1, c .enum-told6 .given .1, counts-read (s .args .first) (s .pre .0), counts-read (s .args .second) (s .pre .1)) refl
 
 returns-5 : tie.Need-returns-5
 unfolding inModel
@@ -74,6 +57,5 @@ line-in-spec =
     tie.close
     (tie.spec
     mul-elastic mul-anelastic
-    (λ c. search needs) (λ c. search needs) (λ c. search needs) (λ c. search needs) (λ c. search needs) (λ c. search needs)
-    sub-t14 (λ c. search needs)
+    (λ c. search needs) (λ c. search needs) (λ c. search needs) (λ c. search needs) (λ c. search needs) (λ c. search needs) (λ c. search needs)
     returns returns-2 returns-3 returns-4 returns-5)
