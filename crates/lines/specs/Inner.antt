@@ -4,6 +4,8 @@ use mathlib.Core.List.{List, map}
 use Prim.Native.Nat.{ℕ, _+_, _*_, _/_, _%_, _^_}
 use lib.IntN.{ℤ, pos, _-ℤ_}
 use Rattle.arguments.specs.declared.Multipliers.{Multipliers}
+use Rattle.bands.specs.declared.Band.{Band}
+use Rattle.bands.specs.declared.Line.{Line as BandLine}
 use Rattle.doodson.specs.Doodson.{digit}
 use Rattle.lines.specs.Lines.{printed, Printed}
 
@@ -37,3 +39,7 @@ firsts = map (λ (l : Printed). l .first) printed
 
 unfoldable pub seconds : List ℤ
 seconds = map (λ (l : Printed). l .second) printed
+
+-- a line of given amplitudes, in counts
+abbrev pub lineWith : Band → ℤ → ℤ → BandLine
+lineWith b i o = record { band = b; ip = i; op = o }

@@ -3,7 +3,7 @@ ghost use mathlib.Core.Path.{_≡_};
 ghost use Prim.Native.Nat.{_≤_, _<_};
 ghost use lib.IntN.{natAbs};
 ghost use Rattle.lines.specs.Lines.{bandAt, inModel, printedLine, findLine, tells};
-ghost use Rattle.lines.specs.Inner.{numberIn, multipliersBy, digits as digitsColumn, firsts, seconds};
+ghost use Rattle.lines.specs.Inner.{numberIn, multipliersBy, lineWith, digits as digitsColumn, firsts, seconds};
 use arguments::Multipliers;
 use bands::Band;
 use bands::Line;
@@ -224,43 +224,30 @@ fn band_at(i: usize) -> Band
     }
 }
 
+// A line of given amplitudes, in counts.
+fn line(band: Band, ip: i64, op: i64) -> Line
+    ensures { λ r. ⌜ r ≡ lineWith band ip op ⌝ }
+{
+    Line { band, ip, op }
+}
+
 // A line of a band in a Love model, from its two printed amplitudes.
 fn line_in(band: Band, love: LoveModel, first: i64, second: i64) -> Line
     requires { ⌜ (natAbs first ≤ 4720) × (natAbs second ≤ 4720) ⌝ }
     ensures { λ r. ⌜ r ≡ inModel band love first second ⌝ }
 {
-    let elastic = first * 100;
-    let anelastic = second * 100;
+    let a = first * 100;
+    let b = second * 100;
     match band {
         Band::Diurnal => match love {
-            LoveModel::Elastic => Line {
-                band: Band::Diurnal,
-                ip: elastic,
-                op: 0,
-            },
-            LoveModel::Anelastic => Line {
-                band: Band::Diurnal,
-                ip: anelastic,
-                op: 0,
-            },
+            LoveModel::Elastic => line(Band::Diurnal, a, 0),
+            LoveModel::Anelastic => line(Band::Diurnal, b, 0),
         },
         Band::LongPeriod => match love {
-            LoveModel::Elastic => Line {
-                band: Band::LongPeriod,
-                ip: 0,
-                op: 0,
-            },
-            LoveModel::Anelastic => Line {
-                band: Band::LongPeriod,
-                ip: elastic,
-                op: anelastic,
-            },
+            LoveModel::Elastic => line(Band::LongPeriod, 0, 0),
+            LoveModel::Anelastic => line(Band::LongPeriod, a, b),
         },
-        Band::Semidiurnal => Line {
-            band: Band::Semidiurnal,
-            ip: elastic,
-            op: 0,
-        },
+        Band::Semidiurnal => line(Band::Semidiurnal, a, 0),
     }
 }
 
