@@ -16,10 +16,10 @@ use Rattle.sheet.specs.Accepted.{ownRefusal}
 use Rattle.sheet.specs.Sheet.{lineCount, tideCount, placeCount, admittance, degree, cCos, sCos, cSin, sSin, coefficient}
 use Rattle.sheet.proofs.Acceptance.{Accepted, accepted}
 use Rattle.tides.specs.Tides.{linePhase, lineSum, factor, fcos, fsin}
-use Rattle.tides.proofs.Factors.{sum-same}
 use Rattle.whole.specs.Nearest.{nearest}
 use Rattle.whole.specs.Sum.{sumTo, weightTo}
 use Rattle.whole.proofs.Running.{weight-size}
+use Rattle.whole.proofs.Sums.{sum-same}
 use Rattle.whole.proofs.Within.{Within, within-nearest}
 use Rattle.ocean_bound.specs.Exact.{exactFcos, exactFsin, partsOfACount, exactSum, atMostNineCounts, CloseToExact, rowWeight, factorError, fittedBound}
 

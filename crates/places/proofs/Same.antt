@@ -7,7 +7,7 @@ use Rattle.choices.specs.declared.Frame.{Frame}
 use Rattle.whole.specs.Nearest.{nearest}
 use Rattle.sheet.specs.Sheet.{tideCount, coefficient}
 use Rattle.tides.specs.Inner.{listed, Lists}
-use Rattle.tides.proofs.Factors.{sum-same}
+use Rattle.whole.proofs.Sums.{sum-same}
 use Rattle.places.specs.Places.{placeSum, unlessSkipped, correction}
 
 module _ (s : List ℕ) (frame : Frame) {C S : ℕ → ℤ} {F G : List ℤ} (HC : Lists C (tideCount s) F) (HS : Lists S (tideCount s) G) (p q j : ℕ) where

@@ -11,10 +11,10 @@ use lib.IntN.{ℤ, pos, _+ℤ_, _*ℤ_, *ℤ-zero}
 use Rattle.choices.specs.declared.Frame.{Frame}
 use Rattle.field.specs.Field.{place}
 use Rattle.sheet.specs.Sheet.{tideCount, degree, coefficient}
-use Rattle.tides.proofs.Factors.{sum-same}
 use Rattle.whole.specs.Nearest.{nearest}
 use Rattle.whole.specs.Sum.{sumTo}
 use Rattle.whole.proofs.Rounding.{nearest-zero}
+use Rattle.whole.proofs.Sums.{sum-same}
 use Rattle.places.specs.Places.{placeSum, skipped, unlessSkipped, correction}
 
 sum-zero : (n : ℕ) → sumTo (λ k. pos 0) n ≡ pos 0

@@ -3,7 +3,7 @@ use borrow.Author.Tests.{leb-false, lt-ltb}
 use mathlib.Core.Bool.{Bool, true, false, cond, _||_}
 use mathlib.Core.List.{List, [], _∷_}
 use mathlib.Core.Path.{_≡_, refl, sym, _∙_}
-use Prim.Native.Nat.{ℕ, zero, suc, _<_}
+use Prim.Native.Nat.{ℕ}
 use native.Mathlib.Omega.{arith}
 use lib.Dec.{ltb, leb}
 use lib.IntN.{ℤ, pos, _+ℤ_, _*ℤ_}
@@ -16,14 +16,8 @@ use Rattle.choices.specs.declared.LoveModel.the-variants.{Elastic, Anelastic}
 use Rattle.hour.specs.Inner.{isUsed, kept, Waved}
 use Rattle.lines.specs.Lines.{bandAt, inModel, linePhase, printedLine}
 use Rattle.wave.specs.Wave.{sin, cos}
-use Rattle.whole.specs.Sum.{sumTo}
 use Rattle.whole.proofs.Ring.{equal, !, #, _⊕_, _⊗_}
-
--- sums of equal terms
-sum-same : (f g : ℕ → ℤ) (n : ℕ) → ((i : ℕ) → i < n → f i ≡ g i) → sumTo f n ≡ sumTo g n
-unfolding sumTo
-sum-same f g zero h = refl
-sum-same f g (suc n) h = rw (sum-same f g n (λ i l. h i (omega arith)), h n (omega arith)) refl
+use Rattle.whole.proofs.Sums.{sum-same}
 
 abbrev silent : Line
 silent = record { band = LongPeriod; ip = pos 0; op = pos 0 }

@@ -1,25 +1,18 @@
 -- Factors worked out from raised waves are the factors of the waves.
 use mathlib.Core.List.{List}
-use mathlib.Core.Path.{_≡_, refl, ap, sym, subst, _∙_}
-use Prim.Native.Nat.{ℕ, zero, suc, _^_, _≤_, _<_}
+use mathlib.Core.Path.{_≡_, ap, sym, subst, _∙_}
+use Prim.Native.Nat.{ℕ, _^_, _≤_}
 use native.Mathlib.Omega.{arith}
-use lib.IntN.{ℤ, pos, natAbs, _+ℤ_, _*ℤ_}
-use lib.ListN.{getD}
+use lib.IntN.{ℤ, pos, natAbs, _*ℤ_}
 use Rattle.whole.proofs.Parts.{abs-sum}
+use Rattle.whole.proofs.Sums.{sum-same}
 use Rattle.whole.specs.Nearest.{nearest}
-use Rattle.whole.specs.Sum.{sumTo}
 use Rattle.sheet.specs.Sheet.{lineCount, tideCount, admittance}
 use Rattle.sheet.proofs.Acceptance.{Accepted}
 use Rattle.tides.specs.Tides.{lineSum, factor}
-use Rattle.tides.specs.Inner.{lowered, Raised, listed, Lists, Sized, Bounded}
-use Rattle.tides.proofs.Lowering.{raised-is, lowered-is}
+use Rattle.tides.specs.Inner.{lowered, Raised, Lists, Sized, Bounded}
+use Rattle.tides.proofs.Lowering.{lowered-is}
 use Rattle.tides.proofs.Sizes.{factor-size}
-
--- sums of terms that agree in the run
-pub sum-same : (f g : ℕ → ℤ) (n : ℕ) → ((i : ℕ) → i < n → f i ≡ g i) → sumTo f n ≡ sumTo g n
-unfolding sumTo
-sum-same f g zero h = refl
-sum-same f g (suc n) h = rw (sum-same f g n (λ i l. h i (omega arith)), h n (omega arith))
 
 module _ (s : List ℕ) (w : ℕ → ℤ) (small : (f : ℕ) → natAbs (w f) ≤ 2 ^ 30) (waves : List ℕ) (H : Raised w (lineCount s) waves) where
   pub waves-bounded : Bounded (lineCount s) waves

@@ -1,6 +1,6 @@
 -- Sums over a counted run of terms.
 use mathlib.Core.Path.{_≡_, refl, ap, _∙_}
-use Prim.Native.Nat.{ℕ, zero, suc, _+_}
+use Prim.Native.Nat.{ℕ, zero, suc, _+_, _<_}
 use native.Mathlib.Numerals.{add-one}
 use native.Mathlib.Omega.{arith}
 use mathlib.Core.List.{[], _∷_}
@@ -12,6 +12,12 @@ use Rattle.whole.proofs.Ring.{equal, !, ⊝, _⊕_, _⊗_}
 pub sum-next : (f : ℕ → ℤ) (n : ℕ) → sumTo f (n + 1) ≡ sumTo f n +ℤ f n
 unfolding sumTo
 sum-next f n = rw (add-one n) refl
+
+-- sums of equal terms
+pub sum-same : (f g : ℕ → ℤ) (n : ℕ) → ((i : ℕ) → i < n → f i ≡ g i) → sumTo f n ≡ sumTo g n
+unfolding sumTo
+sum-same f g zero h = refl
+sum-same f g (suc n) h = rw (sum-same f g n (λ i l. h i (omega arith)), h n (omega arith)) refl
 
 -- a sum of two kinds of term is the sum of their sums
 pub sum-plus : (f g : ℕ → ℤ) (n : ℕ) → sumTo (λ i. f i +ℤ g i) n ≡ sumTo f n +ℤ sumTo g n
