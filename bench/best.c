@@ -94,7 +94,7 @@ uint32_t CALL(step_two)(uint32_t n, int64_t *c, size_t c_length, int64_t *s, siz
             c21 += printed[i].second * wave(sines[i]);
             s21 += printed[i].second * wave(cosines[i]);
         }
-        for (int i = DIURNAL; i < SEMIDIURNAL; i++) c20 += printed[i].first * wave(cosines[i]) + printed[i].second * wave(sines[i]);
+        for (int i = DIURNAL; i < SEMIDIURNAL; i++) c20 += printed[i].first * wave(cosines[i]) - printed[i].second * wave(sines[i]);
     } else {
         waves(phases, DIURNAL, sines, cosines);
         waves(phases + SEMIDIURNAL, LINES - SEMIDIURNAL, sines + SEMIDIURNAL, cosines + SEMIDIURNAL);

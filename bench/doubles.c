@@ -31,7 +31,7 @@ void doubles_step_two(double *c, double *s, const double phases[6], uint32_t lov
             c21 += (love ? second : first) * sine;
             s21 += (love ? second : first) * cosine;
         } else if (i < SEMIDIURNAL) {
-            c20 += first * cosine + second * sine;
+            c20 += first * cosine - second * sine;
         } else {
             c22 += first * cosine;
             s22 -= first * sine;

@@ -1,4 +1,4 @@
-"""Runs the cases of the description (01, and T-01 of 02) and its bounds on the second program; prints one line."""
+"""Runs the cases of the description (01, and T-01 and T-02 of 02) and its bounds on the second program; prints one line."""
 
 import struct
 from collections import Counter
@@ -220,6 +220,48 @@ def fields():
             expect('fields', (t.field_test(N, spoilt, S), t.field_test(N, S, spoilt)), (2, 2))
 
 
+def printed(love):
+    """The model's printed lines as records, listed apart from the program's own."""
+    diurnal = [(number, amplitudes[LOVES.index(love)], 0) for number, *amplitudes in t.DIURNAL]
+    lines = diurnal + [(number, ip, 0) for number, ip, _ in t.SEMIDIURNAL] + [*t.LONG_PERIOD] * (love == t.ANELASTIC)
+    return [(*t.doodson_read(number)[1], ip, op) for number, ip, op in lines]
+
+
+def by_complex(records, phases):
+    """The five from (ip + i*op) times e^(i*phase), as floats: C20 its real part, C21 - i*S21 is -i times it, C22 - i*S22 is it."""
+    bands = [0j, 0j, 0j]
+    for first, *others, ip, op in records:
+        turns = sum(n * phase for n, phase in zip((first, *others), phases)) % 2**32 / 2**32
+        bands[first] += 100 * complex(ip, op) * complex(cos(turns * 6.283185307179586), sin(turns * 6.283185307179586))
+    zero, one, two = bands[0], -1j * bands[1], bands[2]
+    return zero.real, one.real, -one.imag, two.real, -two.imag
+
+
+# Table 6.2b of 001: real and imaginary part of each line's delta k, in 10^-5. The scan's -0.000018 of 75,355 is -0.00018, and the multipliers
+# beside them mend the numbers that it has as 93,075, 597,565, 58,5564 and 757.
+DELTA_K = {
+    55565: (1347, -541), 55575: (1124, -488), 56554: (547, -349), 57555: (403, -315), 57565: (398, -313), 58554: (326, -296),
+    63655: (101, -242), 65445: (80, -237), 65455: (80, -237), 65465: (79, -237), 65655: (77, -236), 73555: (-9, -216), 75355: (-18, -213),
+    75555: (-19, -213), 75565: (-19, -213), 75575: (-19, -213), 83655: (-65, -202), 85455: (-71, -201), 85465: (-71, -201),
+    93555: (-102, -193), 95355: (-106, -192)}
+
+
+def over_part(amplitude, part):
+    """The least and the most that A0*H can be, in 10^-8, where amplitude = A0*H*part and both are rounded to the whole numbers given."""
+    corners = [Fraction(2 * amplitude + a, 2 * part + b) for a, b in product((-1, 1), repeat=2)]
+    return min(corners), max(corners)
+
+
+def table_6_2b():
+    """ip is A0*H times the real part, op the same A0*H times the imaginary part; minus that fits only where ip is 0, which tells no sign."""
+    expect('table 6.2b', [*DELTA_K], [number for number, _, _ in t.LONG_PERIOD])
+    for number, ip, op in t.LONG_PERIOD:
+        low, high = over_part(ip, DELTA_K[number][0])
+        for sign, fits in ((1, True), (-1, ip == 0)):
+            least, most = over_part(sign * op, DELTA_K[number][1])
+            expect('table 6.2b', (number, sign, low <= most and least <= high), (number, sign, fits))
+
+
 def step_two():
     for i in range(400):
         phases, N = random_phases(), 4 if i % 5 else chance.between(4, 60)
@@ -227,14 +269,18 @@ def step_two():
             five = t.step_two_corrections(phases, love)
             for value, exact in zip(five, t.step_two_exact(phases, love), strict=True):
                 within('step two', abs(value - exact), 1, strict=True)
+            for value, real in zip(five, by_complex(printed(love), phases), strict=True):
+                within('step two by doubles', abs(value - real), 1, strict=True)
             C, S = random_field(N)
             number, C2, S2 = t.step_two(N, C, S, phases, love)
             expect('step two', (number, [b - a for a, b in zip(C, C2)], [b - a for a, b in zip(S, S2)]), (0, *changes_of(five, N)))
             assert love == t.ANELASTIC or five[0] == 0
+    for phases, c20 in telling.QUARTERS.items():
+        expect('step two', [t.step_two_corrections(phases, love)[0] for love in LOVES], [0, c20])
     for phases in telling.tie_phases():
         ties = 0
         for love in LOVES:
-            sums = t.line_sums(phases, love, t.sine, t.cosine)
+            sums = t.line_sums(t.printed_records(love), phases, t.sine, t.cosine)
             for value, total in zip(t.step_two_corrections(phases, love), sums, strict=True):
                 if total % t.UNIT == t.UNIT // 2:
                     expect('step two', value, (total >> 30) + 1)                # the half goes up, whatever its sign
@@ -304,16 +350,6 @@ def by_hand():
     expect('own lines', check_own(telling.OWN_RECORDS, telling.DAY_PHASES), telling.OWN_FIVE)
 
 
-def by_complex(records, phases):
-    """The five from (ip + i*op) times e^(i*phase), as floats: C20 its real part, C21 - i*S21 is -i times it, C22 - i*S22 is it."""
-    bands = [0j, 0j, 0j]
-    for first, *others, ip, op in records:
-        turns = sum(n * phase for n, phase in zip((first, *others), phases)) % 2**32 / 2**32
-        bands[first] += 100 * complex(ip, op) * complex(cos(turns * 6.283185307179586), sin(turns * 6.283185307179586))
-    zero, one, two = bands[0], -1j * bands[1], bands[2]
-    return zero.real, one.real, -one.imag, two.real, -two.imag
-
-
 def hard_records(band, phase, by_sine):
     """64 records at full size, and phases: every sign set so that the errors of this phase pull one way in the sum that takes ip by this wave."""
     sine_error, cosine_error = (f(phase) - t.UNIT * g(phase) for f, g in ((t.sine, t.exact_sine), (t.cosine, t.exact_cosine)))
@@ -350,7 +386,7 @@ def own_lines(hardest):
     for records, phases in telling.small_records():                             # 25.6 counts of one wave, 6399.95 of the other
         expect('own lines', {*map(abs, check_own(records, phases))} - {6400}, {0, 26})
     for records, phases in telling.own_line_ties():
-        sums = t.own_line_sums(records, phases, t.sine, t.cosine)
+        sums = t.line_sums(records, phases, t.sine, t.cosine)
         for value, total in zip(check_own(records, phases), sums, strict=True):
             if total % t.UNIT == t.UNIT // 2:
                 expect('own lines', value, (total >> 30) + 1)                   # the half goes up, whatever its sign
@@ -358,10 +394,9 @@ def own_lines(hardest):
         records, phases, total = telling.at_a_tie(chance, *one, beside)
         expect('own lines', total % (1 << 30) - (1 << 29), 0 if not beside else 4 if which == 4 else -4)
         expect('own lines', check_own(records, phases)[which], total + (1 << 29) >> 30)
-    for _ in range(60):                                                         # the printed lines, whose op of C20 has the other sign
-        lines = [(number, ip, 0) for number, _, ip in t.DIURNAL + t.SEMIDIURNAL] + [(number, ip, -op) for number, ip, op in t.LONG_PERIOD]
-        records, phases = [(*t.doodson_read(number)[1], ip, op) for number, ip, op in lines], random_phases()
-        expect('own lines', check_own(records, phases), t.step_two_corrections(phases, t.ANELASTIC))
+    for love, _ in product(LOVES, range(60)):                                   # the printed lines, lent
+        phases = random_phases()
+        expect('own lines', check_own(printed(love), phases), t.step_two_corrections(phases, love))
     own_line_refusals()
 
 
@@ -575,6 +610,7 @@ def main():
     hardest = sines()
     wave_slips()
     fields()
+    table_6_2b()
     step_two()
     permanent()
     sheet_faults()

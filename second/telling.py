@@ -119,8 +119,13 @@ def tie_phases():
             yield 1 << 29, angle % t.TURN, 0, 0, 0, 0
             yield angle % t.TURN, 0, 0, 0, 0, 0                         # every diurnal line has the phase tau
             yield (t.UNIT - angle) % t.TURN, 0, 0, 0, 0, 0
-    yield 0, 3970456009, 0, 0, 0, 3629217367                            # C20 anelastic: -1412.5 and 9862.5 counts
-    yield 0, 3202593653, 0, 0, 0, 1775244711
+    yield 0, 324511287, 0, 0, 0, 665749929                              # C20 anelastic: -1412.5 and 9862.5 counts
+    yield 0, 1092373643, 0, 0, 0, 2519722585
+
+
+# Phases at which every wave is 0, 1 or -1, and C20 there, anelastic, added up by hand. The tenths by the argument's multiplier:
+# s a quarter turn: 0: 96, 1: -38, 2: -8, 3: 18, 4: 2; N' a quarter turn: -1: -2, 0: -71, 1: 39, 2: 1.
+QUARTERS = {(0, 1 << 30, 0, 0, 0, 0): 7000, (0, 0, 0, 0, 1 << 30, 0): -3300}
 
 
 # Each tells sine or cosine from the recipe with one divisor, constant or rounding changed (check.py holds them to that). Those that tell the
@@ -145,7 +150,7 @@ DAY_BODIES = (
     (332946.048, (t.RECTANGULAR, -142729805997.8396, 2252600386.0736647, 50151303252.337364, 151301106891.4837)))
 DAY_PHASES = 327043742, 329517021, 656638906, 3117674196, 3812369497, 3376471194
 DAY_STEP_ONE = {(2, 0): [90693, 0], (2, 1): [-3837629, 950496], (2, 2): [6230270, -4328639]}
-DAY_STEP_TWO = 33089, 427078, 333684, -787, 696
+DAY_STEP_TWO = -53, 427078, 333684, -787, 696
 
 
 # --- Tide lines of our own ---
@@ -169,7 +174,7 @@ def own_line_ties():
         at = sine_phase(value)
         for band, one, phase in product(range(3), ((1, 0), (0, 1), (-3, 0), (0, 99_999)), (at, -at, t.UNIT - at, t.UNIT + at)):
             records, phases = [in_band(band, *one)] * count, at_s(phase)
-            if any(total % t.UNIT == t.UNIT // 2 for total in t.own_line_sums(records, phases, t.sine, t.cosine)):
+            if any(total % t.UNIT == t.UNIT // 2 for total in t.line_sums(records, phases, t.sine, t.cosine)):
                 yield records, phases
 
 

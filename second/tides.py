@@ -1,4 +1,4 @@
-"""Tide corrections to a gravity field: a second program, written from the description (01, and T-01 of 02) alone.
+"""Tide corrections to a gravity field: a second program, written from the description (01, and T-01 and T-02 of 02) alone.
 
 Coefficients are whole counts of 10^-15. Every call that can refuse answers the refusal number first, 0 where it accepts.
 Whole numbers and Fractions throughout; floats (IEEE binary64) only in step one.
@@ -77,7 +77,7 @@ DIURNAL = (
     (165575, -16, -16), (166554, -208, -204), (167555, -50, -50), (173655, -5, -5), (175455, -21, -21),
     (175465, -4, -4), (183555, -2, -2), (185555, -7, -6), (185565, -4, -4))
 
-# Number, in phase, out of phase, anelastic only: C20 takes ip*cosine + op*sine.
+# Number, in phase, out of phase, anelastic only: C20 takes ip*cosine - op*sine (02, T-02).
 LONG_PERIOD = (
     (55565, 166, -67), (55575, -1, 1), (56554, -12, 8), (57555, -55, 43), (57565, 1, -1), (58554, -3, 2),
     (63655, -3, 7), (65445, 1, -2), (65455, -12, 37), (65465, 1, -2), (65655, 1, -2), (73555, 0, 6), (75355, 0, 3),
@@ -189,32 +189,41 @@ def exact_cosine(phase):
 
 # --- Step two ---
 
-def line_sums(phases, love, sin, cos):
-    """'Step two': the five sums C20, C21, S21, C22, S22 in counts times the unit of sin and cos, nothing rounded."""
+def printed_records(love):
+    """'Step two': the model's printed lines: six multipliers, the in-phase and the out-of-phase amplitude, which is 0 outside the long period."""
+    lines = [(number, {ELASTIC: elastic, ANELASTIC: anelastic}[love], 0) for number, elastic, anelastic in DIURNAL]
+    lines += LONG_PERIOD if love == ANELASTIC else ()
+    lines += [(number, amplitude, 0) for number, amplitude, _ in SEMIDIURNAL]
+    return [(*doodson_read(number)[1], ip, op) for number, ip, op in lines]
+
+
+def line_sums(records, phases, sin, cos):
+    """'Step two', 'Tide lines of our own': the five sums C20, C21, S21, C22, S22 in counts times the unit of sin and cos, nothing rounded."""
     c20 = c21 = s21 = c22 = s22 = 0
-    for number, elastic, anelastic in DIURNAL:
-        phase = phase_of(doodson_read(number)[1], phases)
-        amplitude = 100 * {ELASTIC: elastic, ANELASTIC: anelastic}[love]
-        c21 += amplitude * sin(phase)
-        s21 += amplitude * cos(phase)
-    for number, ip, op in LONG_PERIOD if love == ANELASTIC else ():
-        phase = phase_of(doodson_read(number)[1], phases)
-        c20 += 100 * ip * cos(phase) + 100 * op * sin(phase)
-    for number, amplitude, _ in SEMIDIURNAL:
-        phase = phase_of(doodson_read(number)[1], phases)
-        c22 += 100 * amplitude * cos(phase)
-        s22 -= 100 * amplitude * sin(phase)
+    for *multipliers, ip, op in records:
+        phase = phase_of(multipliers, phases)
+        sine_of, cosine_of = sin(phase), cos(phase)
+        by_cosine = 100 * ip * cosine_of - 100 * op * sine_of
+        by_sine = 100 * ip * sine_of + 100 * op * cosine_of
+        if multipliers[0] == 0:
+            c20 += by_cosine
+        elif multipliers[0] == 1:
+            c21 += by_sine
+            s21 += by_cosine
+        else:
+            c22 += by_cosine
+            s22 -= by_sine
     return c20, c21, s21, c22, s22
 
 
 def step_two_corrections(phases, love):
     """'Step two': the corrections to C20, C21, S21, C22, S22 in counts, each rounded once."""
-    return tuple(nearest(total, UNIT) for total in line_sums(phases, love, sine, cosine))
+    return tuple(nearest(total, UNIT) for total in line_sums(printed_records(love), phases, sine, cosine))
 
 
 def step_two_exact(phases, love):
     """'Step two' by the exact counterpart: the five sums as Fractions, in counts."""
-    sums = line_sums(phases, love, exact_sine_numerator, exact_cosine_numerator)
+    sums = line_sums(printed_records(love), phases, exact_sine_numerator, exact_cosine_numerator)
     return tuple(Fraction(total, EXACT_DENOMINATOR) for total in sums)
 
 
@@ -259,33 +268,14 @@ def records_test(records):
     return 0
 
 
-def own_line_sums(records, phases, sin, cos):
-    """'Tide lines of our own': the five sums C20, C21, S21, C22, S22 in counts times the unit of sin and cos, nothing rounded."""
-    c20 = c21 = s21 = c22 = s22 = 0
-    for *multipliers, ip, op in records:
-        phase = phase_of(multipliers, phases)
-        sine_of, cosine_of = sin(phase), cos(phase)
-        by_cosine = 100 * ip * cosine_of - 100 * op * sine_of
-        by_sine = 100 * ip * sine_of + 100 * op * cosine_of
-        if multipliers[0] == 0:
-            c20 += by_cosine
-        elif multipliers[0] == 1:
-            c21 += by_sine
-            s21 += by_cosine
-        else:
-            c22 += by_cosine
-            s22 -= by_sine
-    return c20, c21, s21, c22, s22
-
-
 def own_line_corrections(records, phases):
     """'Tide lines of our own': the corrections to C20, C21, S21, C22, S22 in counts, each rounded once."""
-    return tuple(nearest(total, UNIT) for total in own_line_sums(records, phases, sine, cosine))
+    return tuple(nearest(total, UNIT) for total in line_sums(records, phases, sine, cosine))
 
 
 def own_lines_exact(records, phases):
     """'Tide lines of our own' by the exact counterpart: the five sums as Fractions, in counts."""
-    sums = own_line_sums(records, phases, exact_sine_numerator, exact_cosine_numerator)
+    sums = line_sums(records, phases, exact_sine_numerator, exact_cosine_numerator)
     return tuple(Fraction(total, EXACT_DENOMINATOR) for total in sums)
 
 

@@ -176,10 +176,9 @@ def solid():
     for i, coefficient in enumerate(telling.COEFFICIENTS):
         over_field(*ZEROS, step_one(*telling.at_a_half(chance, coefficient, LOVES[i % 2]), LOVES[i % 2]))
     for love in LOVES:
-        for phases in (NONE, (1 << 30, 0, 0, 0, 0, 0), (U32,) * 6, *telling.tie_phases()):
+        for phases in (NONE, (1 << 30, 0, 0, 0, 0, 0), (U32,) * 6, *telling.tie_phases(), *telling.QUARTERS, telling.DAY_PHASES):
             over_field(*ZEROS, step_two(phases, love))
     over_field(*ZEROS, step_one(*telling.DAY_BODIES, t.ANELASTIC))
-    over_field(*ZEROS, step_two(telling.DAY_PHASES, t.ANELASTIC))
     for place, k in product(range(6), range(8)):                                # each argument beside an edge of the eighths
         over_field(*ZEROS, step_two(tuple(spoilt(NONE, place, (k << 29) + chance.between(-1, 1) & U32)), LOVES[k % 2]))
     for call in (bodies_call(t.ANELASTIC), phases_call(t.ANELASTIC)):

@@ -11,7 +11,7 @@ static void expect(const char *what, uint32_t answer, uint32_t wanted)
     faults++;
 }
 
-/* the printed lines as lines of one's own, anelastic, the op of those of long period turned; how many there are */
+/* the printed lines as lines of one's own, anelastic; how many there are */
 static size_t printed(surfgimlet_own_line *lines)
 {
     size_t count = 0, index;
@@ -20,7 +20,7 @@ static size_t printed(surfgimlet_own_line *lines)
     for (uint32_t number = 0; number < 300000; number++) {
         if (surfgimlet_find_line(number, &index, &first, &second) != SURFGIMLET_ACCEPTED) continue;
         expect("a printed number", surfgimlet_multipliers_of(number, m), SURFGIMLET_ACCEPTED);
-        surfgimlet_own_line line = {m[0], m[1], m[2], m[3], m[4], m[5], m[0] == 0 ? first : second, m[0] == 0 ? -second : 0};
+        surfgimlet_own_line line = {m[0], m[1], m[2], m[3], m[4], m[5], m[0] == 0 ? first : second, m[0] == 0 ? second : 0};
         lines[count++] = line;
     }
     return count;

@@ -109,46 +109,55 @@ static int64_t model_sine(uint32_t phase)
 
 static int64_t model_cosine(uint32_t phase) { return model_sine(phase + (UINT32_C(1) << 30)); }
 
-/* ---- step two */
+/* ---- lines, printed or an operator's own */
 
-/* five sums of counts times 2^30, each rounded once */
-static void model_add_five(int64_t *c, int64_t *s, int64_t c20, int64_t c21, int64_t s21, int64_t c22, int64_t s22)
+/* five sums of counts times 2^30 */
+typedef struct { int64_t c20, c21, s21, c22, s22; } model_sums;
+
+/* a line of long period (0), diurnal (1) or semidiurnal (2), its amplitudes in 100 counts */
+static void model_line(model_sums *sums, int band, int64_t ip, int64_t op, uint32_t phase)
 {
-    c[model_place(2, 0)] += model_nearest(c20, INT64_C(1) << 30);
-    c[model_place(2, 1)] += model_nearest(c21, INT64_C(1) << 30);
-    s[model_place(2, 1)] += model_nearest(s21, INT64_C(1) << 30);
-    c[model_place(2, 2)] += model_nearest(c22, INT64_C(1) << 30);
-    s[model_place(2, 2)] += model_nearest(s22, INT64_C(1) << 30);
+    int64_t sine = 100 * model_sine(phase), cosine = 100 * model_cosine(phase);
+    if (band == 0) {
+        sums->c20 += ip * cosine - op * sine;
+    } else if (band == 1) {
+        sums->c21 += ip * sine + op * cosine;
+        sums->s21 += ip * cosine - op * sine;
+    } else {
+        sums->c22 += ip * cosine - op * sine;
+        sums->s22 += -ip * sine - op * cosine;
+    }
 }
+
+/* each sum is rounded once */
+static void model_add_five(int64_t *c, int64_t *s, model_sums sums)
+{
+    c[model_place(2, 0)] += model_nearest(sums.c20, INT64_C(1) << 30);
+    c[model_place(2, 1)] += model_nearest(sums.c21, INT64_C(1) << 30);
+    s[model_place(2, 1)] += model_nearest(sums.s21, INT64_C(1) << 30);
+    c[model_place(2, 2)] += model_nearest(sums.c22, INT64_C(1) << 30);
+    s[model_place(2, 2)] += model_nearest(sums.s22, INT64_C(1) << 30);
+}
+
+/* ---- step two */
 
 static uint32_t model_step_two(uint32_t n, int64_t *c, size_t c_length, int64_t *s, size_t s_length,
                                surfgimlet_phases b, uint32_t love)
 {
-    int64_t c20 = 0, c21 = 0, s21 = 0, c22 = 0, s22 = 0;
+    model_sums sums = {0, 0, 0, 0, 0};
     uint32_t refusal;
     if (love > 1) return 100;
     refusal = model_field(n, c, c_length, s, s_length);
     if (refusal) return refusal;
     for (int i = 0; i < 49; i++) {
-        int64_t one = model_lines[i].one * 100, two = model_lines[i].two * 100, sine, cosine;
+        int64_t one = model_lines[i].one, two = model_lines[i].two;
         int32_t m[6] = {0};
-        uint32_t phase;
-        if (i >= 26 && i < 47 && love == 0) continue;
         model_multipliers_of(model_lines[i].number, m);
-        phase = model_phase(m, b);
-        sine = model_sine(phase);
-        cosine = model_cosine(phase);
-        if (i < 26) {
-            c21 += (love ? two : one) * sine;
-            s21 += (love ? two : one) * cosine;
-        } else if (i < 47) {
-            c20 += one * cosine + two * sine;
-        } else {
-            c22 += one * cosine;
-            s22 -= one * sine;
-        }
+        if (i < 26) model_line(&sums, 1, love ? two : one, 0, model_phase(m, b));
+        else if (i >= 47) model_line(&sums, 2, one, 0, model_phase(m, b));
+        else if (love) model_line(&sums, 0, one, two, model_phase(m, b));
     }
-    model_add_five(c, s, c20, c21, s21, c22, s22);
+    model_add_five(c, s, sums);
     return 0;
 }
 
@@ -165,7 +174,7 @@ static int model_record(const surfgimlet_own_line *l)
 static uint32_t model_own_lines(uint32_t n, int64_t *c, size_t c_length, int64_t *s, size_t s_length,
                                 const surfgimlet_own_line *lines, size_t count, surfgimlet_phases b)
 {
-    int64_t c20 = 0, c21 = 0, s21 = 0, c22 = 0, s22 = 0;
+    model_sums sums = {0, 0, 0, 0, 0};
     uint32_t refusal = model_field(n, c, c_length, s, s_length);
     if (refusal) return refusal;
     if (count > 64) return 12;
@@ -174,18 +183,9 @@ static uint32_t model_own_lines(uint32_t n, int64_t *c, size_t c_length, int64_t
     for (size_t i = 0; i < count; i++) {
         const surfgimlet_own_line *l = &lines[i];
         const int32_t m[6] = {l->tau, l->s, l->h, l->p, l->np, l->ps};
-        int64_t ip = l->ip * 100, op = l->op * 100, sine = model_sine(model_phase(m, b)), cosine = model_cosine(model_phase(m, b));
-        if (l->tau == 0) {
-            c20 += ip * cosine - op * sine;
-        } else if (l->tau == 1) {
-            c21 += ip * sine + op * cosine;
-            s21 += ip * cosine - op * sine;
-        } else {
-            c22 += ip * cosine - op * sine;
-            s22 += -ip * sine - op * cosine;
-        }
+        model_line(&sums, l->tau, l->ip, l->op, model_phase(m, b));
     }
-    model_add_five(c, s, c20, c21, s21, c22, s22);
+    model_add_five(c, s, sums);
     return 0;
 }
 

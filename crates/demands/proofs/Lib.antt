@@ -4,5 +4,6 @@ pub mod Ocean
 pub mod Close
 pub mod Numbers
 pub mod OneResult
+pub mod Printed
 pub mod Example
 pub mod Proved

@@ -1,0 +1,84 @@
+-- One rule for printed and own lines: the printed lines lent as records, with the table's numbers, are step two in the anelastic model.
+use mathlib.Core.List.{List, [], _∷_, map, _++_}
+use mathlib.Core.Path.{_≡_, refl, sym, ap, _∙_}
+use Prim.Native.Nat.{ℕ, zero, suc, _<_}
+use native.Mathlib.Omega.{arith}
+use native.Mathlib.Nat.{le-of-suc-le-suc, not-suc-le-zero}
+use lib.IntN.{ℤ, pos}
+use lib.ListN.{getD}
+use Rattle.arguments.specs.declared.Phases.{Phases}
+use Rattle.arguments.specs.Phase.{phase}
+use Rattle.bands.specs.Bands.{Coefficient, C20, C21, S21, C22, S22, term, sumOf, correctionsOf}
+use Rattle.choices.specs.declared.LoveModel.the-variants.{Anelastic}
+use Rattle.doodson.specs.Doodson.{multipliersIn}
+use Rattle.field.specs.Field.{fieldRefusal}
+use Rattle.lines.specs.Lines.{Printed, diurnal, longPeriod, semidiurnal, printed, lineAt, multipliersAt, bandAt, inModel, linePhase, printedLine}
+use Rattle.own.specs.declared.OwnLine.{OwnLine}
+use Rattle.own.specs.Own.{multipliersOf, bandOf, lineOf, inRange, recordAt, recordsRefusal, ownPhase, ownSum, ownCorrections}
+use Rattle.refusals.proofs.Outcomes.{first-passed, first-kept}
+use Rattle.refusals.specs.Outcome.{firstOf}
+use Rattle.step_two.specs.StepTwo.{printedSum, corrections}
+use Rattle.surfgimlet.specs.Calls.{stepTwo, ownLinesRefusal, ownLines}
+use Rattle.wave.specs.Wave.{sin, cos}
+use Rattle.whole.proofs.Sums.{sum-same}
+use Rattle.whole.specs.Sum.{allTo}
+
+-- a printed line as a record: the multipliers that its number writes, and two amplitudes
+abbrev lent : Printed → ℤ → ℤ → OwnLine
+lent l ip op =
+    let m = multipliersIn (l .number) in
+    record { tau = m .tau; s = m .s; h = m .h; p = m .p; np = m .np; ps = m .ps; ip = ip; op = op }
+
+-- anelastic: of a diurnal line the second amplitude, of one of long period both as they are printed, of a semidiurnal one the first
+unfoldable pub printedAsOwn : List OwnLine
+printedAsOwn =
+    map (λ (l : Printed). lent l (l .second) (pos 0)) diurnal
+    ++ map (λ (l : Printed). lent l (l .first) (l .second)) longPeriod
+    ++ map (λ (l : Printed). lent l (l .first) (pos 0)) semidiurnal
+
+-- the first n values of a function; two functions whose values are the same lists agree there
+listed : {B : Type 0} → (ℕ → B) → ℕ → List B
+listed f zero = []
+listed f (suc n) = f 0 ∷ listed (λ i. f (suc i)) n
+
+at-listed : {B : Type 0} (f : ℕ → B) (n i : ℕ) (e : B) → i < n → getD (listed f n) i e ≡ f i
+unfolding listed
+at-listed f zero i e h = absurd (not-suc-le-zero h)
+at-listed f (suc n) zero e h = refl
+at-listed f (suc n) (suc i) e h = at-listed (λ i. f (suc i)) n i e (le-of-suc-le-suc h)
+
+agree : {B : Type 0} (f g : ℕ → B) (n : ℕ) → listed f n ≡ listed g n → (i : ℕ) → i < n → f i ≡ g i
+agree f g n same i h = sym (at-listed f n i (f 0) h) ∙ ap (λ (l : List _). getD l i (f 0)) same ∙ at-listed g n i (f 0) h
+
+same-line : (i : ℕ) → i < 49 → lineOf (recordAt printedAsOwn i) ≡ printedLine Anelastic i
+unfolding listed printedAsOwn multipliersIn lineOf bandOf printedLine inModel bandAt lineAt printed diurnal longPeriod semidiurnal
+same-line = agree (λ i. lineOf (recordAt printedAsOwn i)) (printedLine Anelastic) 49 refl
+
+same-multipliers : (i : ℕ) → i < 49 → multipliersOf (recordAt printedAsOwn i) ≡ multipliersAt i
+unfolding listed printedAsOwn multipliersIn multipliersOf multipliersAt lineAt printed diurnal longPeriod semidiurnal
+same-multipliers = agree (λ i. multipliersOf (recordAt printedAsOwn i)) multipliersAt 49 refl
+
+same-sum : (phases : Phases) (k : Coefficient) → ownSum sin cos phases printedAsOwn k ≡ printedSum sin cos phases Anelastic k
+unfolding sumOf printedAsOwn diurnal longPeriod semidiurnal
+same-sum phases k =
+    sum-same (λ i. term k (lineOf (recordAt printedAsOwn i)) (cos (ownPhase phases printedAsOwn i)) (sin (ownPhase phases printedAsOwn i)))
+    (λ i. term k (printedLine Anelastic i) (cos (linePhase phases i)) (sin (linePhase phases i))) 49
+    (λ i h. rw (same-line i h, same-multipliers i h) refl)
+
+same-corrections : (phases : Phases) → ownCorrections phases printedAsOwn ≡ corrections phases Anelastic
+unfolding ownCorrections corrections correctionsOf
+same-corrections phases = rw (same-sum phases C20, same-sum phases C21, same-sum phases S21, same-sum phases C22, same-sum phases S22) refl
+
+-- no number refuses the list
+taken : recordsRefusal printedAsOwn ≡ 0
+unfolding recordsRefusal allTo inRange printedAsOwn multipliersIn diurnal longPeriod semidiurnal
+taken = refl
+
+first-alone : (number : ℕ) → firstOf number 0 ≡ number
+first-alone zero = first-passed 0 0 refl
+first-alone (suc n) = first-kept (suc n) 0 (λ e. omega arith)
+
+-- any field, any phases: the same number and the same lists afterwards
+pub one-rule : (n : ℕ) (c s : List ℤ) (phases : Phases) → ownLines n c s printedAsOwn phases ≡ stepTwo n c s phases Anelastic
+unfolding ownLines ownLinesRefusal stepTwo
+one-rule n c s phases = rw (taken, first-alone (fieldRefusal n c s), same-corrections phases) refl
