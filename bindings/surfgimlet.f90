@@ -8,7 +8,7 @@ module surfgimlet
     public :: phases, body, own_line, phase, words
     public :: version, step_one, step_two, own_lines, ocean_tide, move_c20, multipliers_of, number_of, find_line
 
-    integer(c_int32_t), parameter, public :: header_version = 1001000
+    integer(c_int32_t), parameter, public :: header_version = 1002000
     integer(c_int32_t), parameter, public :: elastic = 0, anelastic = 1
     integer(c_int32_t), parameter, public :: centre_of_figure = 0, centre_of_mass = 1
     integer(c_int32_t), parameter, public :: tide_free = 0, zero_tide = 1, mean_tide = 2

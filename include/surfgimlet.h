@@ -28,7 +28,7 @@
 #include <stdint.h>
 
 /* major * 1,000,000 + minor * 1,000 + patch; surfgimlet_version answers that of the library. */
-#define SURFGIMLET_VERSION 1001000
+#define SURFGIMLET_VERSION 1002000
 
 /* Where the compiler can, it warns of an answer that is not used. */
 #if defined(__cplusplus) && __cplusplus >= 201703L
@@ -134,11 +134,10 @@ SURFGIMLET_ANSWER uint32_t surfgimlet_step_two(uint32_t n, int64_t *c, size_t c_
                                                surfgimlet_phases phases, uint32_t love_model);
 
 /* Tide lines of an operator's own. With x the phase of a line, its multipliers times the phases, the first multiplier says
- * what it adds:
+ * what it adds, as it does for a printed line:
  *   0, long period: ip cos x - op sin x to C20;
  *   1, diurnal: ip sin x + op cos x to C21, ip cos x - op sin x to S21;
  *   2, semidiurnal: ip cos x - op sin x to C22, -ip sin x - op cos x to S22.
- * The printed lines of long period add ip cos x + op sin x: as a line of one's own such a line has its op turned.
  * Given: a field in counts, n its degree, the lengths in entries; 0 to 64 records, equal ones all counting; the phases.
  * Done: the corrections of C20, C21, S21, C22 and S22 are added.
  * Refused: 1, 2; 12, 13. */

@@ -1,18 +1,23 @@
--- The worked Moon and Sun, and four own lines, on a field of zeros.
+-- The worked Moon and Sun, and four own lines, on a field of zeros; step two on a day.
 use mathlib.Core.Path.{_≡_, refl}
 use mathlib.Core.List.{List, [], _∷_}
 use lib.IntN.{ℤ, pos, negℤ}
 use Rattle.arguments.specs.declared.Phases.{Phases}
 use Rattle.arguments.specs.Phase.{modulo, phase}
 use Rattle.bands.specs.Bands.{ofDiurnal, ofLongPeriod, ofSemidiurnal, ofBand, term, sumOf, correctionOf, correctionsOf}
-use Rattle.choices.specs.declared.LoveModel.the-variants.{Anelastic}
+use Rattle.bands.specs.declared.Corrections.{Corrections}
+use Rattle.choices.specs.declared.LoveModel.{LoveModel}
+use Rattle.choices.specs.declared.LoveModel.the-variants.{Elastic, Anelastic}
+use Rattle.doodson.specs.Doodson.{multipliersIn}
 use Rattle.field.specs.Field.{size, shapedBy, place, everyInRange, fieldRefusal}
+use Rattle.lines.specs.Lines.{diurnal, longPeriod, semidiurnal, printed, lineAt, multipliersAt, bandAt, inModel, printedLine}
 use Rattle.own.specs.declared.OwnLine.{OwnLine}
 use Rattle.own.specs.Own.{multipliersOf, bandOf, lineOf, inRange, recordsRefusal, ownCorrections}
 use Rattle.refusals.specs.Outcome.{firstOf, unlessRefused}
 use Rattle.field.specs.Added.{corrected, added, addedAt}
 use Rattle.step_one.proofs.Worked.{moon, sun, moon-and-sun}
 use Rattle.step_one.specs.StepOne.{places}
+use Rattle.step_two.specs.StepTwo.{corrections}
 use Rattle.wave.specs.Wave.{sin, cos, further, eighths, signed, part, folded, eighth-sine, eighth-cosine, steps, step, square, angle}
 use Rattle.whole.specs.Nearest.{nearest}
 use Rattle.whole.specs.Sum.{sumTo, allTo}
@@ -71,3 +76,13 @@ pub own-lines-on-a-field : ownLines 4 zeros zeros (monthly ∷ daily ∷ daily �
     }
 unfolding ownLines ownLinesRefusal recordsRefusal inRange allTo fiveCorrected firstOf unlessRefused fieldRefusal shapedBy size everyInRange placesC placesS place addedAt added corrected
 own-lines-on-a-field = rw four-lines
+
+-- step two at that hour, of either model: the second program's counts
+abbrev day-counts : LoveModel → Corrections
+day-counts Elastic = record { c20 = pos 0; c21 = pos 428117; s21 = pos 334941; c22 = negℤ (pos 787); s22 = pos 696 }
+day-counts Anelastic = record { c20 = negℤ (pos 53); c21 = pos 427078; s21 = pos 333684; c22 = negℤ (pos 787); s22 = pos 696 }
+
+pub step-two-on-a-day : (love : LoveModel) → corrections day love ≡ day-counts love
+unfolding modulo phase multipliersIn diurnal longPeriod semidiurnal printed lineAt multipliersAt bandAt inModel printedLine ofDiurnal ofLongPeriod ofSemidiurnal ofBand term sumOf correctionOf correctionsOf corrections sin cos further eighths signed part folded eighth-sine eighth-cosine steps step square angle nearest sumTo
+step-two-on-a-day Elastic = refl
+step-two-on-a-day Anelastic = refl

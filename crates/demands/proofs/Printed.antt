@@ -7,7 +7,6 @@ use native.Mathlib.Nat.{le-of-suc-le-suc, not-suc-le-zero}
 use lib.IntN.{ℤ, pos}
 use lib.ListN.{getD}
 use Rattle.arguments.specs.declared.Phases.{Phases}
-use Rattle.arguments.specs.Phase.{phase}
 use Rattle.bands.specs.Bands.{Coefficient, C20, C21, S21, C22, S22, term, sumOf, correctionsOf}
 use Rattle.choices.specs.declared.LoveModel.the-variants.{Anelastic}
 use Rattle.doodson.specs.Doodson.{multipliersIn}
