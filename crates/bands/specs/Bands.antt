@@ -1,5 +1,5 @@
--- Document 01, "Step two (001, Tables 6.2)", and document 02, T-01 and T-02: which amplitude of a line goes with the cosine and which with the sine, and with
--- which sign; the sums over lines, and the corrections.
+-- Document 01, "Step two (001, Tables 6.2)", and document 02, T-01 and T-02: which amplitude of a line goes with the cosine and which with the sine, and
+-- with which sign; the sums over lines, and the corrections.
 use Prim.Native.Nat.{ℕ, _^_}
 use lib.IntN.{ℤ, pos, negℤ, _+ℤ_, _*ℤ_}
 use Rattle.whole.specs.Nearest.{nearest}

@@ -1,5 +1,5 @@
-// A line of a band (001, eqs. 5; document 01, "Step two"; document 02, T-01 and T-02): what it adds to C20, C21, S21, C22 and S22, its amplitudes and its waves
-// being given, and the five corrections that lines add up to.
+// A line of a band (001, eqs. 5; document 01, "Step two"; document 02, T-01 and T-02): what it adds to C20, C21, S21, C22 and S22, its amplitudes and its
+// waves being given, and the five corrections that lines add up to.
 ghost use mathlib.Core.Path.{_≡_};
 ghost use lib.IntN.{_+ℤ_, _*ℤ_};
 ghost use Rattle.bands.specs.Bands.{plusLine};

@@ -231,7 +231,7 @@ fn line(band: Band, ip: i64, op: i64) -> Line
     Line { band, ip, op }
 }
 
-// A line of a band in a Love model, from its two printed amplitudes.
+// A line of a band in a Love model, from its two printed amplitudes: in counts, a and b.
 fn line_in(band: Band, love: LoveModel, first: i64, second: i64) -> Line
     requires { ⌜ (natAbs first ≤ 4720) × (natAbs second ≤ 4720) ⌝ }
     ensures { λ r. ⌜ r ≡ inModel band love first second ⌝ }
