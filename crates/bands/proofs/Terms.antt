@@ -27,7 +27,7 @@ minus-fits z h = rw (read z (omega arith)) (difference-fits w64 (pos 0) z (omega
 pub minus-read : (z : ℤ) → natAbs z ≤ 2 ^ 24 → toZ w64 (ofZ w64 (pos 0 -ℤ toZ w64 (ofZ w64 z))) ≡ negℤ z
 minus-read z h = toZ-ofZ (minus-fits z h) ∙ ap (λ (x : ℤ). pos 0 -ℤ x) (read z (omega arith)) ∙ +ℤ-idl (negℤ z)
 
-pub minus-same : (z : ℤ) → natAbs (negℤ z) ≡ natAbs z
+minus-same : (z : ℤ) → natAbs (negℤ z) ≡ natAbs z
 minus-same z = omega (arith, abs z, abs (negℤ z), up-neg z, dn-neg z)
 
 minus-small : (z : ℤ) → natAbs z ≤ 2 ^ 24 → natAbs (negℤ z) ≤ 2 ^ 24

@@ -2,7 +2,6 @@
 use mathlib.Core.List.{List, [], _∷_, map, _++_}
 use mathlib.Core.Path.{_≡_, refl, sym, ap, _∙_}
 use Prim.Native.Nat.{ℕ, zero, suc, _<_}
-use native.Mathlib.Omega.{arith}
 use native.Mathlib.Nat.{le-of-suc-le-suc, not-suc-le-zero}
 use lib.IntN.{ℤ, pos}
 use lib.ListN.{getD}
@@ -14,8 +13,7 @@ use Rattle.field.specs.Field.{fieldRefusal}
 use Rattle.lines.specs.Lines.{Printed, diurnal, longPeriod, semidiurnal, printed, lineAt, multipliersAt, bandAt, inModel, linePhase, printedLine}
 use Rattle.own.specs.declared.OwnLine.{OwnLine}
 use Rattle.own.specs.Own.{multipliersOf, bandOf, lineOf, inRange, recordAt, recordsRefusal, ownPhase, ownSum, ownCorrections}
-use Rattle.refusals.proofs.Outcomes.{first-passed, first-kept}
-use Rattle.refusals.specs.Outcome.{firstOf}
+use Rattle.refusals.proofs.Outcomes.{first-alone}
 use Rattle.step_two.specs.StepTwo.{printedSum, corrections}
 use Rattle.surfgimlet.specs.Calls.{stepTwo, ownLinesRefusal, ownLines}
 use Rattle.wave.specs.Wave.{sin, cos}
@@ -72,10 +70,6 @@ same-corrections phases = rw (same-sum phases C20, same-sum phases C21, same-sum
 taken : recordsRefusal printedAsOwn ≡ 0
 unfolding recordsRefusal allTo inRange printedAsOwn multipliersIn diurnal longPeriod semidiurnal
 taken = refl
-
-first-alone : (number : ℕ) → firstOf number 0 ≡ number
-first-alone zero = first-passed 0 0 refl
-first-alone (suc n) = first-kept (suc n) 0 (λ e. omega arith)
 
 -- any field, any phases: the same number and the same lists afterwards
 pub one-rule : (n : ℕ) (c s : List ℤ) (phases : Phases) → ownLines n c s printedAsOwn phases ≡ stepTwo n c s phases Anelastic

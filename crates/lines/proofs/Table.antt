@@ -14,8 +14,8 @@ use mir.Val.{toZ, ofZ}
 use mir.Facts.{toZ-ofZ}
 use Rattle.bands.specs.declared.Band.{Band}
 use Rattle.bands.specs.declared.Band.the-variants.{Diurnal, LongPeriod, Semidiurnal}
-use Rattle.bands.specs.Bands.{inCounts}
-use Rattle.whole.proofs.Parts.{fits-abs, abs-product}
+use Rattle.bands.proofs.Counts.{counts-size}
+use Rattle.whole.proofs.Parts.{fits-abs}
 use Rattle.choices.specs.declared.LoveModel.{LoveModel}
 use Rattle.choices.specs.declared.LoveModel.the-variants.{Elastic, Anelastic}
 use Rattle.whole.proofs.Tests.{and-left, and-right}
@@ -66,17 +66,14 @@ unfolding small lineAt printed diurnal longPeriod semidiurnal
 amplitudes-small i = each-small printed refl i
 
 -- so no printed line has more than 472,000 counts in phase or out of it, in either model
-pub counts-small : (a : ℤ) → natAbs a ≤ 4720 → natAbs (inCounts a) ≤ 472000
-counts-small a h = omega (arith, abs-product a (pos 100))
-
 model-small : (band : Band) (love : LoveModel) (a b : ℤ) → natAbs a ≤ 4720 → natAbs b ≤ 4720
     → (natAbs (inModel band love a b .ip) ≤ 472000) × (natAbs (inModel band love a b .op) ≤ 472000)
 unfolding inModel
-model-small Diurnal Elastic a b ha hb = (counts-small a ha, omega arith)
-model-small Diurnal Anelastic a b ha hb = (counts-small b hb, omega arith)
+model-small Diurnal Elastic a b ha hb = (counts-size a 4720 ha, omega arith)
+model-small Diurnal Anelastic a b ha hb = (counts-size b 4720 hb, omega arith)
 model-small LongPeriod Elastic a b ha hb = (omega arith, omega arith)
-model-small LongPeriod Anelastic a b ha hb = (counts-small a ha, counts-small b hb)
-model-small Semidiurnal love a b ha hb = (counts-small a ha, omega arith)
+model-small LongPeriod Anelastic a b ha hb = (counts-size a 4720 ha, counts-size b 4720 hb)
+model-small Semidiurnal love a b ha hb = (counts-size a 4720 ha, omega arith)
 
 pub printed-small : (love : LoveModel) (i : ℕ) → (natAbs (printedLine love i .ip) ≤ 472000) × (natAbs (printedLine love i .op) ≤ 472000)
 unfolding printedLine

@@ -41,6 +41,10 @@ pub first-passed : (a b : ℕ) → a ≡ 0 → firstOf a b ≡ b
 unfolding firstOf
 first-passed a b e = rw e
 
+pub first-alone : (a : ℕ) → firstOf a 0 ≡ a
+first-alone zero = first-passed 0 0 refl
+first-alone (suc a) = first-kept (suc a) 0 (λ e. omega arith)
+
 pub first-none : (a b : ℕ) → firstOf a b ≡ 0 → (a ≡ 0) × (b ≡ 0)
 first-none zero b e = (refl, sym (first-passed 0 b refl) ∙ e)
 first-none (suc a) b e = absurd (let z : suc a ≡ 0 = sym (first-kept (suc a) b (λ q. omega arith)) ∙ e in omega arith)

@@ -2,9 +2,10 @@
 use borrow.Author.Needs.{needs}
 use mathlib.Core.Path.{ap, _∙_}
 use mir.Syntax.{w32}
+use Rattle.bands.proofs.Counts.{counts-fit, counts-read}
 use Rattle.whole.proofs.Machine.{back}
 use Rattle.own.specs.Own.{bandOf, lineOf}
-use Rattle.own.proofs.Records.{ip-range, op-range, counts-fit, counts-read}
+use Rattle.own.proofs.Records.{ip-range, op-range}
 use Rattle.own.proofs.line_of.Statement.{statement}
 use Rattle.own.proofs.line_of.Tie as tie
 
