@@ -1,15 +1,15 @@
 -- What the machine reads of small numbers, and a line's terms band by band: what a band does not name gains nothing.
-use mathlib.Core.Path.{_≡_, ap, _∙_}
+use mathlib.Core.Path.{_≡_, _∙_}
 use mathlib.Core.List.{[], _∷_}
 use Prim.Native.Nat.{ℕ, _+_, _*_, _^_, _≤_}
 use native.Mathlib.Nat.{mul-le-mul-left, mul-le-mul-right}
 use native.Mathlib.Omega.{arith}
-use lib.IntN.{ℤ, pos, negℤ, natAbs, _+ℤ_, _-ℤ_, _*ℤ_, +ℤ-idl}
+use lib.IntN.{ℤ, pos, negℤ, natAbs, _+ℤ_, _-ℤ_, _*ℤ_}
 use mir.Syntax.{w64}
 use mir.Val.{SFits, toZ, ofZ}
 use mir.Facts.{toZ-ofZ}
-use Rattle.whole.proofs.Machine.{difference-fits}
-use Rattle.whole.proofs.Parts.{fits-abs, abs, abs-sum, abs-product, up-neg, dn-neg}
+use Rattle.whole.proofs.Machine as machine
+use Rattle.whole.proofs.Parts.{fits-abs, abs-neg, abs-sum, abs-product}
 use Rattle.whole.proofs.Ring.{equal, !, #, _⊕_, _⊗_}
 use Rattle.bands.specs.declared.Band.{Band}
 use Rattle.bands.specs.declared.Band.the-variants.{Diurnal, LongPeriod, Semidiurnal}
@@ -22,19 +22,13 @@ pub read : (z : ℤ) → natAbs z ≤ 2 ^ 62 → toZ w64 (ofZ w64 z) ≡ z
 read z h = toZ-ofZ (fits-abs w64 z (omega arith))
 
 pub minus-fits : (z : ℤ) → natAbs z ≤ 2 ^ 24 → SFits w64 (pos 0 -ℤ toZ w64 (ofZ w64 z))
-minus-fits z h = rw (read z (omega arith)) (difference-fits w64 (pos 0) z (omega arith))
+minus-fits z h = machine.minus-fits w64 (ofZ w64 z) (read z (omega arith)) (omega arith)
 
 pub minus-read : (z : ℤ) → natAbs z ≤ 2 ^ 24 → toZ w64 (ofZ w64 (pos 0 -ℤ toZ w64 (ofZ w64 z))) ≡ negℤ z
-minus-read z h = toZ-ofZ (minus-fits z h) ∙ ap (λ (x : ℤ). pos 0 -ℤ x) (read z (omega arith)) ∙ +ℤ-idl (negℤ z)
-
-minus-same : (z : ℤ) → natAbs (negℤ z) ≡ natAbs z
-minus-same z = omega (arith, abs z, abs (negℤ z), up-neg z, dn-neg z)
-
-minus-small : (z : ℤ) → natAbs z ≤ 2 ^ 24 → natAbs (negℤ z) ≤ 2 ^ 24
-minus-small z h = omega (arith, minus-same z)
+minus-read z h = machine.minus-read w64 (ofZ w64 z) (read z (omega arith)) (omega arith)
 
 pub minus-held : (z : ℤ) → natAbs z ≤ 2 ^ 24 → natAbs (toZ w64 (ofZ w64 (pos 0 -ℤ toZ w64 (ofZ w64 z)))) ≤ 2 ^ 24
-minus-held z h = rw (minus-read z h) (minus-small z h)
+minus-held z h = rw (minus-read z h) (omega (arith, abs-neg z))
 
 -- a call of `plus_wave`, its arguments as the machine reads them
 module _ {t a c b s t′ a′ c′ b′ s′ : ℤ} (T : t ≡ t′) (A : a ≡ a′) (C : c ≡ c′) (B : b ≡ b′) (S : s ≡ s′) where
@@ -75,10 +69,10 @@ pub taken-size : (band : Band) (k : Coefficient) (ip op : ℤ) → natAbs (ofBan
 unfolding ofBand ofDiurnal ofLongPeriod ofSemidiurnal
 taken-size Diurnal C20 ip op = omega arith
 taken-size Diurnal C21 ip op = omega arith
-taken-size Diurnal S21 ip op = omega (arith, minus-same op)
+taken-size Diurnal S21 ip op = omega (arith, abs-neg op)
 taken-size Diurnal C22 ip op = omega arith
 taken-size Diurnal S22 ip op = omega arith
-taken-size LongPeriod C20 ip op = omega (arith, minus-same op)
+taken-size LongPeriod C20 ip op = omega (arith, abs-neg op)
 taken-size LongPeriod C21 ip op = omega arith
 taken-size LongPeriod S21 ip op = omega arith
 taken-size LongPeriod C22 ip op = omega arith
@@ -86,8 +80,8 @@ taken-size LongPeriod S22 ip op = omega arith
 taken-size Semidiurnal C20 ip op = omega arith
 taken-size Semidiurnal C21 ip op = omega arith
 taken-size Semidiurnal S21 ip op = omega arith
-taken-size Semidiurnal C22 ip op = omega (arith, minus-same op)
-taken-size Semidiurnal S22 ip op = omega (arith, minus-same ip, minus-same op)
+taken-size Semidiurnal C22 ip op = omega (arith, abs-neg op)
+taken-size Semidiurnal S22 ip op = omega (arith, abs-neg ip, abs-neg op)
 
 pub term-size : (k : Coefficient) (line : Line) (c s : ℤ) (w : ℕ) → natAbs c ≤ w → natAbs s ≤ w → natAbs (term k line c s) ≤ (natAbs (line .ip) + natAbs (line .op)) * w
 unfolding term

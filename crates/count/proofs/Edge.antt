@@ -4,7 +4,7 @@ use mathlib.Core.Bool.{Bool, true, false, cond, not}
 use Prim.Native.Nat.{ℕ, zero, suc, _+_, _*_, _/_, _%_, _^_, _≤_, _<_}
 use native.Mathlib.Nat.{mul-right-comm, mul-le-mul-right, mul-lt-mul-of-pos-right, lt-of-mul-lt-mul-right, lt-of-le-of-lt, lt-of-lt-of-le, lt-irrefl, lt-of-not-le, le-add-right, le-of-eq, le-trans}
 use native.Mathlib.Omega.{arith}
-use lib.IntN.{ℤ, pos, natAbs, negℤ, _*ℤ_, _-ℤ_}
+use lib.IntN.{ℤ, pos, natAbs, _*ℤ_, _-ℤ_}
 use lib.Dec.{T, eqb, ltb→lt}
 use lib.Pow.{pow-add, pow-pos, pow-mono}
 use lib.Ieee.{Float, nan, inf, fin, binary64, up, down, lt, odd, ofFields, ofBits, toBits, fits, isNan, round}
@@ -12,7 +12,7 @@ use lib.Ieee.Bits.{ofBits-toBits}
 use lib.Ieee.Exact.{HasValue, odd-sign}
 use lib.Ieee.Fits.{and-l, and-r, down-pos}
 use Rattle.whole.specs.Nearest.{nearest}
-use Rattle.whole.proofs.Parts.{abs, abs-le, abs-product, difference, up-neg, dn-neg}
+use Rattle.whole.proofs.Parts.{abs, abs-le, abs-neg, abs-product, difference}
 use Rattle.whole.proofs.Rounding.{nearest-near}
 use Rattle.limits.specs.Limits.{isCountable}
 use Rattle.doubles.specs.Doubles.{number, minus-number}
@@ -73,7 +73,7 @@ field-of x f h =
 abs-signed : (s : Bool) (n : ℕ) → natAbs (signed s n) ≡ n
 unfolding signed
 abs-signed false n = omega arith
-abs-signed true n = omega (arith, abs (negℤ (pos n)), up-neg (pos n), dn-neg (pos n))
+abs-signed true n = omega (arith, abs-neg (pos n))
 
 -- a whole number within one half of z / n, where z / n is below 2^52 in size
 small : (c z : ℤ) (n : ℕ) → 2 * natAbs (c *ℤ pos n -ℤ z) ≤ n → natAbs z < 2 ^ 52 * n → natAbs c ≤ 2 ^ 52

@@ -4,7 +4,7 @@ use Prim.Native.Nat.{ℕ, _*_, _^_, _≤_}
 use native.Mathlib.Nat.{mul-le-mul}
 use native.Mathlib.Omega.{arith}
 use lib.IntN.{ℤ, pos, negℤ, natAbs}
-use Rattle.whole.proofs.Parts.{abs, up-neg, dn-neg}
+use Rattle.whole.proofs.Parts.{abs-neg}
 use Rattle.wave.specs.Wave.{further, angle, square, step, steps, sine-divisors, eighth-sine, cosine-divisors, eighth-cosine, sin, cos}
 use Rattle.wave.proofs.Turn.{everywhere}
 
@@ -30,7 +30,7 @@ unfolding eighth-cosine
 cosine-size a h = omega (arith, steps-size (square (angle a)) (2 ^ 32) (omega arith) cosine-divisors)
 
 negated : (z : ℤ) → natAbs z ≤ 2 ^ 30 → natAbs (negℤ z) ≤ 2 ^ 30
-negated z h = omega (arith, abs z, abs (negℤ z), up-neg z, dn-neg z)
+negated z h = omega (arith, abs-neg z)
 
 pub sin-size : (t : ℕ) → natAbs (sin t) ≤ 2 ^ 30
 unfolding sin

@@ -1,7 +1,7 @@
 -- What the machine's tests of signed numbers say in parts, and that its operations fit.
-use mathlib.Core.Path.{_≡_, refl, sym, ap, subst, _∙_}
+use mathlib.Core.Path.{_≡_, refl, sym, subst, _∙_}
 use mathlib.Core.Bool.{Bool, true, false, not, _&&_}
-use Prim.Native.Nat.{ℕ, suc, _+_, _-_, _^_, _≤_, _<_}
+use Prim.Native.Nat.{ℕ, suc, _+_, _^_, _≤_, _<_}
 use native.Mathlib.Omega.{arith}
 use lib.Dec.{T, leb, leb·suc-suc}
 use lib.IntN.{ℤ, pos, negsuc, negℤ, natAbs, _+ℤ_, _-ℤ_, +ℤ-idl}
@@ -9,7 +9,7 @@ use lib.Signed.{ltZ, leZ, ltZ-yes, ltZ-no, nonNeg, mag}
 use mir.Syntax.{Width}
 use mir.Val.{SFits, toZ, ofZ, hbits}
 use mir.Facts.{toZ-ofZ}
-use Rattle.whole.proofs.Parts.{up, dn, below→, less→, fits-abs, abs-sum, abs, abs-le, difference, up-neg, dn-neg}
+use Rattle.whole.proofs.Parts.{up, dn, below→, less→, fits-abs, abs-sum, abs, abs-le, difference}
 
 module _ (w : Width) {x y : ℤ} (fx : SFits w x) (fy : SFits w y) where
   pub lt-yes : ltZ (toZ w (ofZ w x)) (toZ w (ofZ w y)) ≡ true → up x + dn y < up y + dn x
@@ -21,9 +21,6 @@ module _ (w : Width) {x y : ℤ} (fx : SFits w x) (fy : SFits w y) where
 pub positive : (x : ℤ) → dn x ≤ up x → T (nonNeg x)
 positive (pos n) h = tt
 positive (negsuc n) h = absurd (omega arith)
-
-pub abs-neg : (x : ℤ) → natAbs (pos 0 -ℤ x) ≡ natAbs x
-abs-neg x = ap natAbs (+ℤ-idl (negℤ x)) ∙ omega (arith, abs (negℤ x), abs x, up-neg x, dn-neg x)
 
 pub abs-difference : (a b : ℤ) → natAbs (a -ℤ b) ≤ natAbs a + natAbs b
 abs-difference a b = abs-le (a -ℤ b) (natAbs a + natAbs b) (omega (arith, difference a b, abs a, abs b)) (omega (arith, difference a b, abs a, abs b))
@@ -38,6 +35,14 @@ difference-fits w a b h = fits-abs w (a -ℤ b) (omega (arith, abs-difference a 
 -- what the machine reads back of a call's result, whose range is `c .f .ok`
 pub back : (w : Width) (z : ℤ) → mag z < 2 ^ hbits w → toZ w (ofZ w z) ≡ z
 back w z h = toZ-ofZ (record { sfits = h })
+
+-- minus a number, worked out from what the machine holds of it
+module _ (w : Width) (n : ℕ) {z : ℤ} (held : toZ w n ≡ z) (small : natAbs z < 2 ^ hbits w) where
+  pub minus-fits : SFits w (pos 0 -ℤ toZ w n)
+  minus-fits = rw held (difference-fits w (pos 0) z (omega arith))
+
+  pub minus-read : toZ w (ofZ w (pos 0 -ℤ toZ w n)) ≡ negℤ z
+  minus-read = toZ-ofZ minus-fits ∙ rw held (+ℤ-idl (negℤ z))
 
 -- a number lies between -(k + 1) and k + 1 where its size is at most k + 1
 pub band : (k : ℕ) (z : ℤ) → (leZ (negsuc k) z && leZ z (pos (suc k))) ≡ leb (natAbs z) (suc k)

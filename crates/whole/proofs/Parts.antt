@@ -105,10 +105,13 @@ pub abs-twice : (a : ℤ) (b : ℕ) → 2 * up a ≤ b + 2 * dn a → 2 * dn a �
 abs-twice (pos n) b h k = omega arith
 abs-twice (negsuc n) b h k = omega arith
 
+pub abs-neg : (x : ℤ) → natAbs (negℤ x) ≡ natAbs x
+abs-neg x = omega (arith, abs (negℤ x), abs x, up-neg x, dn-neg x)
+
 pub abs-product : (a b : ℤ) → natAbs (a *ℤ b) ≡ natAbs a * natAbs b
 abs-product (pos a) (pos b) = refl
-abs-product (pos a) (negsuc b) = omega (arith, abs (negℤ (pos (a * suc b))), up-neg (pos (a * suc b)), dn-neg (pos (a * suc b)))
-abs-product (negsuc a) (pos b) = omega (arith, abs (negℤ (pos (suc a * b))), up-neg (pos (suc a * b)), dn-neg (pos (suc a * b)))
+abs-product (pos a) (negsuc b) = abs-neg (pos (a * suc b))
+abs-product (negsuc a) (pos b) = abs-neg (pos (suc a * b))
 abs-product (negsuc a) (negsuc b) = refl
 
 pub abs-sum : (a b : ℤ) → natAbs (a +ℤ b) ≤ natAbs a + natAbs b

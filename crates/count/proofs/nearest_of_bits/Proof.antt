@@ -1,5 +1,5 @@
 -- Twice the value is the digits without their last h places; halved and rounded up, by the sign, that is the nearest count.
-use mathlib.Core.Path.{_≡_, refl, sym, ap, _∙_}
+use mathlib.Core.Path.{_≡_, sym, ap, _∙_}
 use mathlib.Core.Bool.{Bool, true, false}
 use Prim.Native.Nat.{ℕ, _+_, _-_, _/_, _^_, _≤_, _<_}
 use native.Mathlib.Nat.{le-antisymm, le-of-suc-le-suc, div-lt-iff-lt-mul, le-div-iff-mul-le}
@@ -7,13 +7,12 @@ use native.Mathlib.Omega.{arith}
 use lib.Pow.{pow-pos}
 use lib.Dec.{leb}
 use lib.Ieee.{binary64, ofBits}
-use lib.IntN.{ℤ, pos, negℤ, _-ℤ_, +ℤ-idl}
+use lib.IntN.{negℤ}
 use mir.Syntax.{w64}
-use mir.Val.{SFits}
-use mir.Facts.{toZ-ofZ}
+use mir.Val.{toZ, ofZ}
 use borrow.Author.Needs.{needs}
 use borrow.Author.Tests.{lt-leb, le-leb}
-use Rattle.whole.proofs.Machine.{back, difference-fits}
+use Rattle.whole.proofs.Machine.{back, minus-fits, minus-read}
 use Rattle.count.specs.Count.{signed, count}
 use Rattle.count.proofs.Halves.{kept, rounded}
 use Rattle.count.proofs.Fields.{digits, count-of-bits}
@@ -43,12 +42,11 @@ module _ (c : tie.After-halved) where
   unfolding rounded
   size-is s e k = count-of-bits b (c .before .places-of .result) (c .before .places-of .ensures .1) (c .before .places-of .ensures .2) ∙ rw (e, k)
 
-  -- what is taken from zero
-  negated : SFits w64 (pos 0 -ℤ c .halved .result)
-  negated = difference-fits w64 (pos 0) (c .halved .result) (omega (arith, c .halved .ensures .1))
+  held : toZ w64 (ofZ w64 (c .halved .result)) ≡ c .halved .result
+  held = back w64 (c .halved .result) (c .halved .ok)
 
 sub-result : tie.Need-sub-result
-sub-result c = rw (back w64 (c .before .halved .result) (c .before .halved .ok)) (negated (c .before))
+sub-result c = minus-fits w64 (ofZ w64 (c .before .halved .result)) (held (c .before)) (omega (arith, c .before .halved .ensures .1))
 
 returns : tie.Need-returns
 unfolding signed
@@ -56,7 +54,7 @@ returns c =
     let a = c .before in
     let low : b a < 2 ^ 63 = omega arith in
     let kept-is : digits (b a) - b a / 2 ^ 63 ≡ digits (b a) = omega arith in
-    back w64 (a .halved .result) (a .halved .ok) ∙ a .halved .ensures .0 ∙ sym (size-is a false (lt-leb (2 ^ 63) (b a) low) kept-is)
+    held a ∙ a .halved .ensures .0 ∙ sym (size-is a false (lt-leb (2 ^ 63) (b a) low) kept-is)
 
 returns-2 : tie.Need-returns-2
 unfolding signed
@@ -66,8 +64,7 @@ returns-2 c =
     let high : 2 ^ 63 ≤ b a = omega arith in
     let one : b a / 2 ^ 63 ≡ 1 = le-antisymm (sign-le (b a) wide) (le-div-iff-mul-le (pow-pos 63) .1 high) in
     let kept-is : digits (b a) - b a / 2 ^ 63 ≡ digits (b a) - 1 = ap (λ (k : ℕ). digits (b a) - k) one in
-    rw (back w64 (a .halved .result) (a .halved .ok), toZ-ofZ (negated a))
-    (+ℤ-idl (negℤ (a .halved .result)) ∙ ap negℤ (a .halved .ensures .0) ∙ sym (size-is a true (le-leb (2 ^ 63) (b a) high) kept-is))
+    minus-read w64 (ofZ w64 (a .halved .result)) (held a) (omega (arith, a .halved .ensures .1)) ∙ ap negℤ (a .halved .ensures .0) ∙ sym (size-is a true (le-leb (2 ^ 63) (b a) high) kept-is)
 
 pub nearest-of-bits-spec : {M : Type 1} → statement M
 nearest-of-bits-spec =

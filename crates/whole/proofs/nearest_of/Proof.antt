@@ -4,12 +4,12 @@ use mathlib.Core.Path.{_≡_, sym, ap, _∙_}
 use Prim.Native.Nat.{ℕ, _+_, _-_, _/_, _^_, _≤_, _<_}
 use native.Mathlib.Nat.{div-mul-le-self, mul-le-mul-left}
 use native.Mathlib.Omega.{arith}
-use lib.IntN.{ℤ, pos, negℤ, natAbs, _-ℤ_, +ℤ-idl}
+use lib.IntN.{ℤ, pos, negℤ, natAbs}
 use mir.Syntax.{w64}
-use mir.Val.{SFits}
+use mir.Val.{toZ}
 use mir.Facts.{toZ-ofZ, toZ-pos}
 use Rattle.whole.specs.Nearest.{nearest}
-use Rattle.whole.proofs.Machine.{difference-fits}
+use Rattle.whole.proofs.Machine.{minus-fits, minus-read}
 use Rattle.whole.proofs.Signs.{below-zero, from-zero}
 use Rattle.whole.proofs.Rounding.{nearest-above, nearest-below}
 use Rattle.whole.proofs.nearest_of.Statement.{statement}
@@ -35,8 +35,8 @@ module _ (c : tie.After-size-of) (half : ℕ) (h : half ≤ c .before .args .n) 
   quotient-small : quotient < 2 ^ 63
   quotient-small = omega (arith, sum-small, quotient-least (c .size-of .result + half) (c .before .args .n) (c .before .pre .0))
 
-  turned-fits : SFits w64 (pos 0 -ℤ pos quotient)
-  turned-fits = difference-fits w64 (pos 0) (pos quotient) (omega (arith, quotient-small))
+  held : toZ w64 quotient ≡ pos quotient
+  held = toZ-pos w64 quotient-small
 
 size-of-requires : tie.Need-size-of-requires
 size-of-requires c κs = search needs
@@ -56,7 +56,7 @@ cast-result c = record { sfits = quotient-small (c .before) ((c .before .before 
 sub-result-2 : tie.Need-sub-result-2
 sub-result-2 c =
     let half = (c .before .before .args .n - 1) / 2 in
-    rw (toZ-pos w64 (quotient-small (c .before) half (omega arith))) (turned-fits (c .before) half (omega arith))
+    minus-fits w64 (quotient (c .before) half (omega arith)) (held (c .before) half (omega arith)) (quotient-small (c .before) half (omega arith))
 
 add-result-2 : tie.Need-add-result-2
 add-result-2 c = omega (arith, sum-small (c .before) (c .before .before .args .n / 2) (omega arith))
@@ -72,20 +72,19 @@ returns c =
     let s = c .before .before in
     let n = s .args .n in
     let half = (n - 1) / 2 in
-    rw (toZ-pos w64 (quotient-small (c .before) half (omega arith)), toZ-ofZ (turned-fits (c .before) half (omega arith)))
-    (+ℤ-idl (negℤ (pos (quotient (c .before) half (omega arith))))
+    minus-read w64 (quotient (c .before) half (omega arith)) (held (c .before) half (omega arith)) (quotient-small (c .before) half (omega arith))
     ∙ ap (λ (a : ℕ). negℤ (pos ((a + half) / n))) (found (c .before) half (omega arith))
     ∙ sym (nearest-below (natAbs (s .args .x)) n (s .pre .0))
-    ∙ ap (λ (z : ℤ). nearest z n) (sym (below-zero (s .args .x) (rw (toZ-ofZ (s .fits .x)) at (c .if1 .taken)))))
+    ∙ ap (λ (z : ℤ). nearest z n) (sym (below-zero (s .args .x) (rw (toZ-ofZ (s .fits .x)) at (c .if1 .taken))))
 
 returns-2 : tie.Need-returns-2
 returns-2 c =
     let s = c .before .before in
     let n = s .args .n in
-    rw (toZ-pos w64 (quotient-small (c .before) (n / 2) (omega arith)))
-    (ap (λ (a : ℕ). pos ((a + n / 2) / n)) (found (c .before) (n / 2) (omega arith))
+    held (c .before) (n / 2) (omega arith)
+    ∙ ap (λ (a : ℕ). pos ((a + n / 2) / n)) (found (c .before) (n / 2) (omega arith))
     ∙ sym (nearest-above (natAbs (s .args .x)) n (s .pre .0))
-    ∙ ap (λ (z : ℤ). nearest z n) (sym (from-zero (s .args .x) (rw (toZ-ofZ (s .fits .x)) at (c .if1 .left)))))
+    ∙ ap (λ (z : ℤ). nearest z n) (sym (from-zero (s .args .x) (rw (toZ-ofZ (s .fits .x)) at (c .if1 .left))))
 
 pub nearest-of-spec : {M : Type 1} → statement M
 nearest-of-spec =
