@@ -1,5 +1,5 @@
 -- What holds on an eighth holds on the whole turn; and the sine and the cosine by the eighth, from one S(a) and one C(a), as the code has them.
-use mathlib.Core.Path.{_≡_, refl, ap}
+use mathlib.Core.Path.{_≡_, refl, sym, ap, _∙_}
 use mathlib.Core.Bool.{Bool, true, false, cond, _||_}
 use Prim.Native.Nat.{ℕ, _+_, _-_, _*_, _/_, _%_, _^_, _≤_, _<_}
 use native.Mathlib.Omega.{arith}
@@ -48,32 +48,13 @@ module _
         let e = t / 2 ^ 29 in
         by-sign (ltb e 4) _ _ (by-part (eqb (e % 4) 0 || eqb (e % 4) 3) _ (by-fold (eqb (e % 2) 0) (t % 2 ^ 29) (omega arith)))
 
--- the part of two whole numbers, be they taken as signed or not
-outside : (c : Bool) (m n : ℕ) → cond c (pos m) (pos n) ≡ pos (cond c m n)
-outside true m n = refl
-outside false m n = refl
-
 -- the sine in eighth e, from S(a) and C(a)
 abbrev pub sineIn : ℕ → ℕ → ℕ → ℤ
-sineIn e s c = signed e (pos (part (λ _. s) (λ _. c) e 0))
+sineIn e s c = signed e (part (λ _. pos s) (λ _. pos c) e 0)
 
-pub sin-in : (t : ℕ) → let a = folded (t / 2 ^ 29) (t % 2 ^ 29) in sin t ≡ sineIn (t / 2 ^ 29) (eighth-sine a) (eighth-cosine a)
+sin-in : (t : ℕ) → let a = folded (t / 2 ^ 29) (t % 2 ^ 29) in sin t ≡ sineIn (t / 2 ^ 29) (eighth-sine a) (eighth-cosine a)
 unfolding sin eighths part
-sin-in t =
-    let e = t / 2 ^ 29 in
-    let a = folded e (t % 2 ^ 29) in
-    ap (signed e) (outside (eqb (e % 4) 0 || eqb (e % 4) 3) (eighth-sine a) (eighth-cosine a))
-
--- S(a) and C(a), as they are worked out from one x and one y
-pub eighth-values : {a a′ x y s c : ℕ} → a′ ≡ a → x ≡ angle a′ → y ≡ square x
-    → s ≡ ((x * steps y (2 ^ 32) sine-divisors + 2 ^ 31) / 2 ^ 32 + 2) / 4
-    → c ≡ (steps y (2 ^ 32) cosine-divisors + 2) / 4
-    → (s ≡ eighth-sine a) × (c ≡ eighth-cosine a)
-unfolding eighth-sine eighth-cosine
-eighth-values ha hx hy hs hc = (cc, cc)
-
-pub ap-2 : {A B C : Type 0} (f : A → B → C) {x x′ : A} {y y′ : B} → x ≡ x′ → y ≡ y′ → f x y ≡ f x′ y′
-ap-2 f p q = cc
+sin-in t = refl
 
 -- a quarter turn further on is two eighths further on, and there a is the same
 further-eighth : (t : ℕ) → t < 2 ^ 32 → further t / 2 ^ 29 ≡ (t / 2 ^ 29 + 2) % 8
@@ -90,7 +71,30 @@ further-folded e b =
     let h : (e + 2) % 8 % 2 ≡ e % 2 = omega arith in
     ap (λ (k : ℕ). cond (eqb k 0) b (2 ^ 29 - b)) h
 
-pub cos-in : (t : ℕ) → t < 2 ^ 32
+cos-in : (t : ℕ) → t < 2 ^ 32
     → let a = folded (t / 2 ^ 29) (t % 2 ^ 29) in cos t ≡ sineIn ((t / 2 ^ 29 + 2) % 8) (eighth-sine a) (eighth-cosine a)
 unfolding cos
 cos-in t h = rw (further-eighth t h, further-rest t, further-folded (t / 2 ^ 29) (t % 2 ^ 29)) at (sin-in (further t))
+
+-- the sine and the cosine in eighth e, where S(a) and C(a) are worked out from one x and one y
+module _ (t : ℕ) (ht : t < 2 ^ 32) {a x y s c : ℕ}
+    (ha : a ≡ folded (t / 2 ^ 29) (t % 2 ^ 29))
+    (hx : x ≡ angle a)
+    (hy : y ≡ square x)
+    (hs : s ≡ ((x * steps y (2 ^ 32) sine-divisors + 2 ^ 31) / 2 ^ 32 + 2) / 4)
+    (hc : c ≡ (steps y (2 ^ 32) cosine-divisors + 2) / 4)
+  where
+    sine-is : s ≡ eighth-sine a
+    unfolding eighth-sine
+    sine-is = cc
+
+    cosine-is : c ≡ eighth-cosine a
+    unfolding eighth-cosine
+    cosine-is = cc
+
+    pub in-eighth : {e : ℕ} → t / 2 ^ 29 ≡ e → {u u′ v v′ : ℤ} → (u ≡ u′) × (v ≡ v′)
+        → u′ ≡ sineIn e s c → v′ ≡ sineIn ((e + 2) % 8) s c → (u ≡ sin t) × (v ≡ cos t)
+    in-eighth k given p q = (
+      given .0 ∙ p ∙ rw (sine-is, cosine-is, ha, ← k) (sym (sin-in t)),
+      given .1 ∙ q ∙ rw (sine-is, cosine-is, ha, ← k) (sym (cos-in t ht)),
+    )

@@ -1,8 +1,7 @@
 // The sine and the cosine of a phase, a turn being 2^32, in units of 2^-30 (01, "Phase, sine and cosine").
 ghost use mathlib.Core.Path.{_≡_};
 ghost use Prim.Native.Nat.{_+_, _*_, _/_, _^_, _≤_};
-ghost use lib.IntN.{pos};
-ghost use Rattle.wave.specs.Wave.{folded, part, signed, angle, square, step, steps, sine-divisors, cosine-divisors, sin, cos};
+ghost use Rattle.wave.specs.Wave.{angle, square, step, steps, sine-divisors, cosine-divisors, sin, cos};
 
 // The sine and the cosine of one phase.
 pub struct Wave {
@@ -62,43 +61,33 @@ fn eighth_cosine_of(y: u64) -> u32
     ((h + 2) / 4) as u32
 }
 
-// a, the angle from the nearest quarter turn.
-fn folded_of(e: u32, b: u32) -> u32
-    requires { ⌜ b ≤ 2 ^ 29 ⌝ }
-    ensures { λ r. ⌜ (r ≡ folded e b) × (r ≤ 2 ^ 29) ⌝ }
+// A sine with its cosine.
+fn sine_cosine(sine: i64, cosine: i64) -> Wave
+    ensures { λ r. ⌜ (r .sine ≡ sine) × (r .cosine ≡ cosine) ⌝ }
 {
-    if e % 2 == 0 { b } else { 536870912 - b }
+    Wave { sine, cosine }
 }
 
-// S(a) or C(a), by the eighth.
-fn part_of(e: u32, sine: u32, cosine: u32) -> u32
-    requires { ⌜ (sine ≤ 2 ^ 30) × (cosine ≤ 2 ^ 30) ⌝ }
-    ensures { λ r. ⌜ (r ≡ part (λ _. sine) (λ _. cosine) e 0) × (r ≤ 2 ^ 30) ⌝ }
-{
-    let k = e % 4;
-    if (k == 0) | (k == 3) { sine } else { cosine }
-}
-
-// The sine in an eighth, from S(a) and C(a) there.
-fn sine_in(e: u32, sine: u32, cosine: u32) -> i64
-    requires { ⌜ (sine ≤ 2 ^ 30) × (cosine ≤ 2 ^ 30) ⌝ }
-    ensures { λ r. ⌜ r ≡ signed e (pos (part (λ _. sine) (λ _. cosine) e 0)) ⌝ }
-{
-    let size = part_of(e, sine, cosine) as i64;
-    if e < 4 { size } else { -size }
-}
-
-// The sine and the cosine of a phase: the cosine is the sine a quarter turn, two eighths, further on, and a is the same there.
+// The sine and the cosine of a phase, laid out as 01 has them: the eighth e and the rest b, the fold, S(a) and C(a), and what each eighth makes of them.
+// The cosine is the sine a quarter turn, two eighths, further on, and a is the same there.
 pub fn wave_of(phase: u32) -> Wave
     ensures { λ r. ⌜ (r .sine ≡ sin phase) × (r .cosine ≡ cos phase) ⌝ }
 {
     let e = phase / 536870912;
-    let x = angle_of(folded_of(e, phase % 536870912));
+    let b = phase % 536870912;
+    let a = if e % 2 == 0 { b } else { 536870912 - b };
+    let x = angle_of(a);
     let y = square_of(x);
-    let sine = eighth_sine_of(x, y);
-    let cosine = eighth_cosine_of(y);
-    Wave {
-        sine: sine_in(e, sine, cosine),
-        cosine: sine_in((e + 2) % 8, sine, cosine),
+    let s = eighth_sine_of(x, y) as i64;
+    let c = eighth_cosine_of(y) as i64;
+    match e {
+        0 => sine_cosine(s, c),
+        1 => sine_cosine(c, s),
+        2 => sine_cosine(c, -s),
+        3 => sine_cosine(s, -c),
+        4 => sine_cosine(-s, -c),
+        5 => sine_cosine(-c, -s),
+        6 => sine_cosine(-c, s),
+        7.. => sine_cosine(-s, c),
     }
 }

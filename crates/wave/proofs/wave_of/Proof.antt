@@ -1,45 +1,127 @@
--- S(a) and C(a) are worked out once; the cosine takes them two eighths further on.
+-- The fold is the definition's, S(a) and C(a) are worked out once, and in each eighth the sine and the cosine are one of the two with a sign.
 use borrow.Author.Needs.{needs}
-use mathlib.Core.Path.{_≡_, sym, _∙_}
-use Prim.Native.Nat.{ℕ, _+_, _/_, _%_, _^_}
+use borrow.Author.Tests.{eq-eqb, ne-eqb}
+use mathlib.Core.Logic.{inl, inr}
+use mathlib.Core.Path.{_≡_}
+use Prim.Native.Nat.{ℕ, _+_, _/_, _%_, _^_, _≤_, _<_}
 use native.Mathlib.Omega.{arith}
+use lib.IntN.{ℤ, pos, negℤ, _-ℤ_}
 use mir.Syntax.{w64}
-use Rattle.whole.proofs.Machine.{back}
-use Rattle.wave.specs.Wave.{folded, eighth-sine, eighth-cosine}
-use Rattle.wave.proofs.Turn.{sineIn, sin-in, cos-in, eighth-values, ap-2}
+use mir.Val.{SFits, toZ, ofZ}
+use mir.Facts.{toZ-pos}
+use Rattle.whole.proofs.Machine.{minus-fits, minus-read}
+use Rattle.wave.specs.Wave.{folded, part, signed, sin, cos}
+use Rattle.wave.proofs.Turn.{sineIn, in-eighth}
 use Rattle.wave.proofs.wave_of.Statement.{statement}
 use Rattle.wave.proofs.wave_of.Tie as tie
 
+-- a = b for even e, 2^29 - b for odd e
+fold : (c : tie.Joined1) → let t = c .before .args .phase in (c .if1 .a ≡ folded (t / 2 ^ 29) (t % 2 ^ 29)) × (c .if1 .a ≤ 2 ^ 29)
+unfolding folded
+fold c =
+    let e = c .before .args .phase / 2 ^ 29 in
+    elim (c .if1 .came) [
+      | inl even ↦ (rw (eq-eqb (e % 2) 0 (even .0 .taken)) (even .1), omega (arith, even .1))
+      | inr odd ↦ (rw (ne-eqb (e % 2) 0 (odd .0 .left)) (odd .1), omega (arith, odd .1))
+    ]
+
 module _ (c : tie.After-eighth-cosine-of) where
-  abbrev folding : tie.After-folded-of
+  abbrev folding : tie.Joined1
   folding = c .before .before .before .before
 
   abbrev t : ℕ
   t = folding .before .args .phase
 
-  abbrev a : ℕ
-  a = folded (t / 2 ^ 29) (t % 2 ^ 29)
+  abbrev S : ℕ
+  S = c .before .eighth-sine-of .result
 
-  values : (c .before .eighth-sine-of .result ≡ eighth-sine a) × (c .eighth-cosine-of .result ≡ eighth-cosine a)
-  values =
-      eighth-values
-      (folding .folded-of .ensures .0)
+  abbrev C : ℕ
+  C = c .eighth-cosine-of .result
+
+  -- what the case of eighth e has to give
+  eighth : {e : ℕ} → t / 2 ^ 29 ≡ e → {u u′ v v′ : ℤ} → (u ≡ u′) × (v ≡ v′) → u′ ≡ sineIn e S C → v′ ≡ sineIn ((e + 2) % 8) S C → (u ≡ sin t) × (v ≡ cos t)
+  eighth =
+      in-eighth t (omega arith)
+      (fold folding .0)
       (c .before .before .before .angle-of .ensures .0)
       (c .before .before .square-of .ensures .0)
       (c .before .eighth-sine-of .ensures .0)
       (c .eighth-cosine-of .ensures .0)
 
+  plus-s : toZ w64 S ≡ pos S
+  plus-s = toZ-pos w64 (omega arith)
+
+  plus-c : toZ w64 C ≡ pos C
+  plus-c = toZ-pos w64 (omega arith)
+
+  minus-s-fits : SFits w64 (pos 0 -ℤ toZ w64 S)
+  minus-s-fits = minus-fits w64 S plus-s (omega arith)
+
+  minus-c-fits : SFits w64 (pos 0 -ℤ toZ w64 C)
+  minus-c-fits = minus-fits w64 C plus-c (omega arith)
+
+  minus-s : toZ w64 (ofZ w64 (pos 0 -ℤ toZ w64 S)) ≡ negℤ (pos S)
+  minus-s = minus-read w64 S plus-s (omega arith)
+
+  minus-c : toZ w64 (ofZ w64 (pos 0 -ℤ toZ w64 C)) ≡ negℤ (pos C)
+  minus-c = minus-read w64 C plus-c (omega arith)
+
+-- of eight numbers the one that is none of the first seven
+upper : (e : ℕ) → (e ≡ 0 → ⊥) → (e ≡ 1 → ⊥) → (e ≡ 2 → ⊥) → (e ≡ 3 → ⊥) → 4 ≤ e
+upper e h₀ h₁ h₂ h₃ = omega arith
+
+last : (e : ℕ) → e < 8 → 4 ≤ e → (e ≡ 4 → ⊥) → (e ≡ 5 → ⊥) → (e ≡ 6 → ⊥) → e ≡ 7
+last e h l h₄ h₅ h₆ = omega arith
+
+seven : (c : tie.At-match-rest) → t (c .before) / 2 ^ 29 ≡ 7
+seven c =
+    let e = t (c .before) / 2 ^ 29 in
+    let low = c .match .rest .0 .0 .0 in
+    last e (omega arith) (upper e (low .0 .0 .0 .1) (low .0 .0 .1) (low .0 .1) (low .1)) (c .match .rest .0 .0 .1) (c .match .rest .0 .1) (c .match .rest .1)
+
 returns : tie.Need-returns
-returns c =
-    let w = c .before .before in
-    rw (back w64 (c .before .sine-in .result) (c .before .sine-in .ok), back w64 (c .sine-in2 .result) (c .sine-in2 .ok)) (
-      c .before .sine-in .ensures ∙ ap-2 (sineIn (t w / 2 ^ 29)) (values w .0) (values w .1) ∙ sym (sin-in (t w)),
-      c .sine-in2 .ensures ∙ ap-2 (sineIn ((t w / 2 ^ 29 + 2) % 8)) (values w .0) (values w .1) ∙ sym (cos-in (t w) (omega arith)),
-    )
+unfolding signed part
+returns c = let w = c .before .before in eighth w (c .before .match .keys1) (c .sine-cosine .ensures) (plus-s w) (plus-c w)
+
+returns-2 : tie.Need-returns-2
+unfolding signed part
+returns-2 c = let w = c .before .before in eighth w (c .before .match .keys2) (c .sine-cosine2 .ensures) (plus-c w) (plus-s w)
+
+returns-3 : tie.Need-returns-3
+unfolding signed part
+returns-3 c = let w = c .before .before in eighth w (c .before .match .keys3) (c .sine-cosine3 .ensures) (plus-c w) (minus-s w)
+
+returns-4 : tie.Need-returns-4
+unfolding signed part
+returns-4 c = let w = c .before .before in eighth w (c .before .match .keys4) (c .sine-cosine4 .ensures) (plus-s w) (minus-c w)
+
+returns-5 : tie.Need-returns-5
+unfolding signed part
+returns-5 c = let w = c .before .before in eighth w (c .before .match .keys5) (c .sine-cosine5 .ensures) (minus-s w) (minus-c w)
+
+returns-6 : tie.Need-returns-6
+unfolding signed part
+returns-6 c = let w = c .before .before in eighth w (c .before .match .keys6) (c .sine-cosine6 .ensures) (minus-c w) (minus-s w)
+
+returns-7 : tie.Need-returns-7
+unfolding signed part
+returns-7 c = let w = c .before .before in eighth w (c .before .match .keys7) (c .sine-cosine7 .ensures) (minus-c w) (plus-s w)
+
+returns-8 : tie.Need-returns-8
+unfolding signed part
+returns-8 c = let w = c .before .before in eighth w (seven (c .before)) (c .sine-cosine8 .ensures) (minus-s w) (plus-c w)
 
 pub wave-of-spec : {M : Type 1} → statement M
 wave-of-spec =
     tie.close
     (tie.spec
-    (λ c κs. search needs) (λ c κs. search needs) (λ c κs. search needs) (λ c κs. search needs) (λ c κs. search needs)
-    (λ c κs. search needs) (λ c. search needs) (λ c κs. search needs) returns)
+    (λ c. search needs) (λ c κs. fold c .1) (λ c κs. search needs) (λ c κs. search needs) (λ c. search needs) (λ c κs. search needs) (λ c. search needs)
+    (λ c κs. search needs)
+    (λ c κs. search needs)
+    (λ c. minus-s-fits (c .before)) (λ c κs. search needs)
+    (λ c. minus-c-fits (c .before)) (λ c κs. search needs)
+    (λ c. minus-s-fits (c .before)) (λ c. minus-c-fits (c .before)) (λ c κs. search needs)
+    (λ c. minus-c-fits (c .before)) (λ c. minus-s-fits (c .before)) (λ c κs. search needs)
+    (λ c. minus-c-fits (c .before)) (λ c κs. search needs)
+    (λ c. minus-s-fits (c .before)) (λ c κs. search needs)
+    returns returns-2 returns-3 returns-4 returns-5 returns-6 returns-7 returns-8)
