@@ -1,5 +1,5 @@
-/* Holds best.c to the unit on many inputs, then times each call of the unit, of best.c by each compiler, and of doubles.c, in turn, and keeps the
- * fastest of many rounds of each: what others do on the machine only adds. */
+/* Holds best.c to the unit on many inputs, then times each call of the unit, of best.c by each compiler, of an earlier archive where one is given, and of
+ * doubles.c, in turn, and keeps the fastest of many rounds of each: what others do on the machine only adds. */
 #define _POSIX_C_SOURCE 200809L
 #include <math.h>
 #include <stdio.h>
@@ -38,9 +38,17 @@ static const way ways[] = {
 #ifdef WITH_CLANG
     {"clang", clang_step_one, clang_step_two, clang_own_lines, clang_ocean_tide},
 #endif
+#ifdef WITH_EARLIER
+    {"earlier", earlier_surfgimlet_step_one, earlier_surfgimlet_step_two, earlier_surfgimlet_own_lines, earlier_surfgimlet_ocean_tide},
+#endif
 };
 #define WAYS ((int)(sizeof ways / sizeof *ways))
 #define DOUBLES WAYS
+#ifdef WITH_EARLIER
+#define EARLIER (WAYS - 1)
+#else
+#define EARLIER WAYS
+#endif
 
 static size_t size_of(uint32_t degree) { return (size_t)(degree + 1) * (degree + 2) / 2; }
 
@@ -118,12 +126,53 @@ static void make_sheet(int lines, int tides, int places)
     length = (size_t)(at - sheet);
 }
 
-static void any_phases(void)
+typedef struct { surfgimlet_phases phases; double radians[6]; } epoch;
+
+static epoch epoch_at(const uint32_t p[6])
+{
+    epoch e = {.phases = {p[0], p[1], p[2], p[3], p[4], p[5]}};
+    for (int i = 0; i < 6; i++) e.radians[i] = p[i] * (6.283185307179586 / 4294967296.0);
+    return e;
+}
+
+static epoch any_epoch(void)
 {
     uint32_t p[6];
     for (int i = 0; i < 6; i++) p[i] = (uint32_t)any(UINT64_C(1) << 32);
-    phases = (surfgimlet_phases){p[0], p[1], p[2], p[3], p[4], p[5]};
-    for (int i = 0; i < 6; i++) radians[i] = p[i] * (6.283185307179586 / 4294967296.0);
+    return epoch_at(p);
+}
+
+static void go_to(const epoch *e)
+{
+    phases = e->phases;
+    memcpy(radians, e->radians, sizeof radians);
+}
+
+static void any_phases(void)
+{
+    epoch e = any_epoch();
+    go_to(&e);
+}
+
+/* the epochs of a row: one for all its calls, or another at each call, 30 seconds further along an arc or drawn at random */
+enum { ONE, ARC, RANDOM };
+static epoch epochs[1024];
+static int epochs_length, epoch_now;
+
+static void make_epochs(int kind)
+{
+    static const uint32_t in_30_seconds[6] = {1440814, 54584, 4083, 461, 219, 0};
+    uint32_t p[6] = {0};
+    epochs_length = kind == ONE ? 0 : 1024;
+    for (int k = 0; k < epochs_length; k++) {
+        for (int i = 0; i < 6; i++) p[i] += in_30_seconds[i];
+        epochs[k] = kind == ARC ? epoch_at(p) : any_epoch();
+    }
+}
+
+static void next_epoch(void)
+{
+    if (epochs_length) go_to(&epochs[epoch_now++ % epochs_length]);
 }
 
 static surfgimlet_body any_body(double ratio, double least, double most)
@@ -134,7 +183,9 @@ static surfgimlet_body any_body(double ratio, double least, double most)
     return (surfgimlet_body){by * sqrt(size) > 2 ? SURFGIMLET_RECTANGULAR : SURFGIMLET_DIRECTION, ratio, d[0] * by, d[1] * by, d[2] * by, r};
 }
 
-/* ---- best.c held to the unit */
+/* ---- best.c held to the unit, and the earlier archive compared with it */
+
+static long earlier_differs;
 
 static void hold(int what)
 {
@@ -150,7 +201,10 @@ static void hold(int what)
         memcpy(c, c_before, sizeof c);
         memcpy(s, s_before, sizeof s);
         call(what, by);
-        if (answer != unit || memcmp(c, c_unit, sizeof c) || memcmp(s, s_unit, sizeof s)) {
+        if (answer == unit && !memcmp(c, c_unit, sizeof c) && !memcmp(s, s_unit, sizeof s)) continue;
+        if (by == EARLIER) {
+            earlier_differs++;
+        } else {
             printf("best.c by %s differs from the unit: call %d, N = %u, choice %u, answers %u and %u\n", ways[by].name, what, n, choice, answer, unit);
             exit(1);
         }
@@ -185,6 +239,7 @@ static void hold_all(void)
     }
     printf("best.c: the unit's answers and counts on %d calls; answered", CALLS);
     for (int i = 0; i <= 100; i++) if (refused[i]) printf(" %d: %ld", i, refused[i]);
+    if (EARLIER < WAYS) printf("\nthe earlier archive: other answers or counts than the unit's on %ld of them", earlier_differs);
     puts("\n");
 }
 
@@ -208,7 +263,10 @@ static void time_once(int what, int by, double *best)
     call(what, by);
     times = 1 + (long)(1e5 / (now() - from + 1));
     from = now();
-    for (long i = 0; i < times; i++) call(what, by);
+    for (long i = 0; i < times; i++) {
+        next_epoch();
+        call(what, by);
+    }
     each = (now() - from) / (double)times;
     if (each < *best) *best = each;
 }
@@ -216,37 +274,39 @@ static void time_once(int what, int by, double *best)
 static double best_c(const double *best, const char **by)
 {
     int least = 1;
-    for (int i = 2; i < WAYS; i++) if (best[i] < best[least]) least = i;
+    for (int i = 2; i < EARLIER; i++) if (best[i] < best[least]) least = i;
     *by = ways[least].name;
     return best[least];
 }
 
-typedef struct { const char *name; int what; int lines, tides, places; uint32_t n, choice; double of_c, of_doubles; } row;
+typedef struct { const char *name; int what; int lines, tides, places; uint32_t n, choice; double of_c, of_doubles; int epochs; } row;
 
-/* the last two are the ratios to reach, 0 where none is set */
+/* of_c and of_doubles are the ratios to reach, 0 where none is set */
 static const row rows[] = {
-    {"ocean 128/32/90", OCEAN, 128, 32, 90, 12, 0, 1.10, 0.90},
-    {"ocean 128/32/90", OCEAN, 128, 32, 90, 60, 0, 1.10, 0},
-    {"ocean 128/32/90, refused with 9", OCEAN, 128, 32, 90, 11, 0, 0, 0},
-    {"ocean 64/8/30", OCEAN, 64, 8, 30, 12, 0, 0, 0},
-    {"ocean 64/8/30", OCEAN, 64, 8, 30, 60, 0, 1.20, 0},
-    {"ocean 8/2/6", OCEAN, 8, 2, 6, 4, 0, 0, 0},
-    {"ocean 8/2/6", OCEAN, 8, 2, 6, 12, 0, 1.25, 0},
-    {"ocean 8/2/6", OCEAN, 8, 2, 6, 60, 0, 0, 0},
-    {"step two, anelastic", STEP_TWO, 0, 0, 0, 4, 1, 1.45, 0},
-    {"step two, anelastic", STEP_TWO, 0, 0, 0, 12, 1, 1.45, 1.05},
-    {"step two, anelastic", STEP_TWO, 0, 0, 0, 60, 1, 1.20, 0},
-    {"step two, elastic", STEP_TWO, 0, 0, 0, 4, 0, 1.45, 0},
-    {"step two, elastic", STEP_TWO, 0, 0, 0, 12, 0, 1.45, 0},
-    {"step two, elastic", STEP_TWO, 0, 0, 0, 60, 0, 0, 0},
-    {"own lines 64", OWN, 64, 0, 0, 12, 0, 0, 0},
-    {"own lines 64", OWN, 64, 0, 0, 60, 0, 0, 0},
-    {"step one, anelastic", STEP_ONE, 0, 0, 0, 4, 1, 1.10, 0},
-    {"step one, anelastic", STEP_ONE, 0, 0, 0, 12, 1, 1.10, 0},
-    {"step one, anelastic", STEP_ONE, 0, 0, 0, 60, 1, 1.10, 0},
-    {"step one, elastic", STEP_ONE, 0, 0, 0, 4, 0, 0, 0},
-    {"step one, elastic", STEP_ONE, 0, 0, 0, 12, 0, 0, 0},
-    {"step one, elastic", STEP_ONE, 0, 0, 0, 60, 0, 0, 0},
+    {"ocean 128/32/90", OCEAN, 128, 32, 90, 12, 0, 1.10, 0.90, ONE},
+    {"ocean 128/32/90", OCEAN, 128, 32, 90, 60, 0, 1.10, 0, ONE},
+    {"ocean 128/32/90, refused with 9", OCEAN, 128, 32, 90, 11, 0, 0, 0, ONE},
+    {"ocean 64/8/30", OCEAN, 64, 8, 30, 12, 0, 0, 0, ONE},
+    {"ocean 64/8/30", OCEAN, 64, 8, 30, 60, 0, 1.20, 0, ONE},
+    {"ocean 8/2/6", OCEAN, 8, 2, 6, 4, 0, 0, 0, ONE},
+    {"ocean 8/2/6", OCEAN, 8, 2, 6, 12, 0, 1.25, 0, ONE},
+    {"ocean 8/2/6", OCEAN, 8, 2, 6, 60, 0, 0, 0, ONE},
+    {"step two, anelastic", STEP_TWO, 0, 0, 0, 4, 1, 1.35, 0, ONE},
+    {"step two, anelastic", STEP_TWO, 0, 0, 0, 12, 1, 1.35, 0.95, ONE},
+    {"step two, anelastic", STEP_TWO, 0, 0, 0, 60, 1, 1.20, 0, ONE},
+    {"step two, anelastic, along an arc", STEP_TWO, 0, 0, 0, 4, 1, 0, 0, ARC},
+    {"step two, anelastic, at random", STEP_TWO, 0, 0, 0, 4, 1, 0, 0, RANDOM},
+    {"step two, elastic", STEP_TWO, 0, 0, 0, 4, 0, 1.35, 0, ONE},
+    {"step two, elastic", STEP_TWO, 0, 0, 0, 12, 0, 1.35, 0, ONE},
+    {"step two, elastic", STEP_TWO, 0, 0, 0, 60, 0, 0, 0, ONE},
+    {"own lines 64", OWN, 64, 0, 0, 12, 0, 0, 0, ONE},
+    {"own lines 64", OWN, 64, 0, 0, 60, 0, 0, 0, ONE},
+    {"step one, anelastic", STEP_ONE, 0, 0, 0, 4, 1, 1.10, 0, ONE},
+    {"step one, anelastic", STEP_ONE, 0, 0, 0, 12, 1, 1.10, 0, ONE},
+    {"step one, anelastic", STEP_ONE, 0, 0, 0, 60, 1, 1.10, 0, ONE},
+    {"step one, elastic", STEP_ONE, 0, 0, 0, 4, 0, 0, 0, ONE},
+    {"step one, elastic", STEP_ONE, 0, 0, 0, 12, 0, 0, 0, ONE},
+    {"step one, elastic", STEP_ONE, 0, 0, 0, 60, 0, 0, 0, ONE},
 };
 
 /* a ratio beside the one to reach */
@@ -265,6 +325,7 @@ static void compare(const row *r)
     choice = r->choice;
     if (r->what == OCEAN) make_sheet(r->lines, r->tides, r->places);
     if (r->what == OWN) make_lines(r->lines);
+    make_epochs(r->epochs);
     memset(c, 0, sizeof c);
     memset(s, 0, sizeof s);
     hold(r->what);
@@ -274,6 +335,7 @@ static void compare(const row *r)
     printf("| %s | %u | %.0f | %.0f %s | %.0f |", r->name, n, best[0], c_time, by, best[DOUBLES]);
     put_ratio(best[0] / c_time, r->of_c);
     put_ratio(best[0] / best[DOUBLES], r->of_doubles);
+    if (EARLIER < WAYS) printf(" %.0f | %.2f |", best[EARLIER], best[0] / best[EARLIER]);
     puts("");
 }
 
@@ -312,7 +374,8 @@ int main(void)
     sun = (surfgimlet_body){SURFGIMLET_RECTANGULAR, 332946, 9e10, 7.2e10, -9.6e10, 1.5e11};
 
     puts("Nanoseconds a call, the least of many rounds. A sheet is lines/tides/places.\n");
-    puts("| call | N | unit | best C | doubles | unit/C | at most | unit/doubles | at most |\n|---|---|---|---|---|---|---|---|---|");
+    printf("| call | N | unit | best C | doubles | unit/C | at most | unit/doubles | at most |%s\n", EARLIER < WAYS ? " earlier | unit/earlier |" : "");
+    printf("|---|---|---|---|---|---|---|---|---|%s\n", EARLIER < WAYS ? "---|---|" : "");
     for (size_t i = 0; i < sizeof rows / sizeof *rows; i++) compare(&rows[i]);
 
     printf("\n| one more | the unit at four sizes |");

@@ -14,6 +14,12 @@ step_two_call gcc_step_two, clang_step_two;
 own_call gcc_own_lines, clang_own_lines;
 ocean_call gcc_ocean_tide, clang_ocean_tide;
 
+/* the archive of an earlier commit, its names begun with earlier_ */
+step_one_call earlier_surfgimlet_step_one;
+step_two_call earlier_surfgimlet_step_two;
+own_call earlier_surfgimlet_own_lines;
+ocean_call earlier_surfgimlet_ocean_tide;
+
 /* doubles.c: phases in radians */
 void doubles_prepare(void);
 void doubles_step_one(double *c, double *s, surfgimlet_body moon, surfgimlet_body sun, uint32_t love);
