@@ -161,7 +161,7 @@ static int epochs_length, epoch_now;
 
 static void make_epochs(int kind)
 {
-    static const uint32_t in_30_seconds[6] = {1440814, 54584, 4083, 461, 219, 0};
+    static const uint32_t in_30_seconds[6] = {1440808, 54584, 4083, 461, 219, 0};
     uint32_t p[6] = {0};
     epochs_length = kind == ONE ? 0 : 1024;
     for (int k = 0; k < epochs_length; k++) {
