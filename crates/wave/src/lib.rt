@@ -3,6 +3,9 @@ ghost use mathlib.Core.Path.{_≡_};
 ghost use Prim.Native.Nat.{_+_, _*_, _/_, _^_, _≤_};
 ghost use Rattle.wave.specs.Wave.{angle, square, step, steps, sine-divisors, cosine-divisors, sin, cos};
 
+// An eighth of a turn, 2^29.
+const EIGHTH: u32 = 536870912;
+
 // The sine and the cosine of one phase.
 pub struct Wave {
     pub sine: i64,
@@ -69,13 +72,13 @@ fn sine_cosine(sine: i64, cosine: i64) -> Wave
 }
 
 // The sine and the cosine of a phase, laid out as 01 has them: the eighth e and the rest b, the fold, S(a) and C(a), and what each eighth makes of them.
-// The cosine is the sine a quarter turn, two eighths, further on, and a is the same there.
+// The cosine is the sine two eighths further on, where a is the same.
 pub fn wave_of(phase: u32) -> Wave
     ensures { λ r. ⌜ (r .sine ≡ sin phase) × (r .cosine ≡ cos phase) ⌝ }
 {
-    let e = phase / 536870912;
-    let b = phase % 536870912;
-    let a = if e % 2 == 0 { b } else { 536870912 - b };
+    let e = phase / EIGHTH;
+    let b = phase % EIGHTH;
+    let a = if e % 2 == 0 { b } else { EIGHTH - b };
     let x = angle_of(a);
     let y = square_of(x);
     let s = eighth_sine_of(x, y) as i64;
