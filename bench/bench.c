@@ -148,21 +148,16 @@ static void go_to(const epoch *e)
     memcpy(radians, e->radians, sizeof radians);
 }
 
-static void any_phases(void)
-{
-    epoch e = any_epoch();
-    go_to(&e);
-}
-
-/* the epochs of a row: one for all its calls, or another at each call, 30 seconds further along an arc or drawn at random */
+/* the epochs of a row: one for all its calls, the same for all rows, or another at each call, 30 seconds further along an arc or drawn at random */
 enum { ONE, ARC, RANDOM };
-static epoch epochs[1024];
+static epoch one, epochs[1024];
 static int epochs_length, epoch_now;
 
 static void make_epochs(int kind)
 {
     static const uint32_t in_30_seconds[6] = {1440808, 54584, 4083, 461, 219, 0};
     uint32_t p[6] = {0};
+    go_to(&one);
     epochs_length = kind == ONE ? 0 : 1024;
     for (int k = 0; k < epochs_length; k++) {
         for (int i = 0; i < 6; i++) p[i] += in_30_seconds[i];
@@ -223,7 +218,8 @@ static void hold_all(void)
         n = degrees[any(100) ? any(4) : any(6)];
         choice = (uint32_t)any(40) ? (uint32_t)any(2) : 2;
         for (size_t k = 0; k < SIZE; k++) { c[k] = within(edge); s[k] = within(edge); }
-        any_phases();
+        one = any_epoch();
+        go_to(&one);
         moon = any_body(0.0123, 3e8, 4e8);
         sun = any_body(any(20) ? 332946 : 1e5, any(20) ? 1.4e11 : 1e8, 1.5e11);
         if (what == OCEAN) make_sheet(1 + (int)any(8), 1 + (int)any(4), (int)any(16));
@@ -346,6 +342,7 @@ static void grow(const char *what, int kind, const int sizes[4][4], int part)
     for (int i = 0; i < 4; i++)
         for (int by = 0; by <= WAYS; by++) best[i][by] = 1e18;
     choice = kind == STEP_TWO;
+    make_epochs(ONE);
     for (int k = 0; k < ROUNDS; k++)
         for (int i = 0; i < 4; i++) {
             n = (uint32_t)sizes[i][3];
@@ -369,7 +366,7 @@ int main(void)
     static const int by_entry[4][4] = {{0, 0, 0, 4}, {0, 0, 0, 12}, {0, 0, 0, 30}, {0, 0, 0, 60}};
     doubles_prepare();
     hold_all();
-    any_phases();
+    one = any_epoch();
     moon = (surfgimlet_body){SURFGIMLET_DIRECTION, 0.0123, 0.6, 0.48, 0.64, 3.8e8};
     sun = (surfgimlet_body){SURFGIMLET_RECTANGULAR, 332946, 9e10, 7.2e10, -9.6e10, 1.5e11};
 
