@@ -22,6 +22,14 @@ use Rattle.wave.specs.Wave.{
   cos,
 }
 
+by-fold : (c : Bool) (b : ℕ) → b < 2 ^ 29 → cond c b (2 ^ 29 - b) ≤ 2 ^ 29
+by-fold true b h = omega arith
+by-fold false b h = omega arith
+
+pub folded-size : (e b : ℕ) → b < 2 ^ 29 → folded e b ≤ 2 ^ 29
+unfolding folded
+folded-size e b h = by-fold (eqb (e % 2) 0) b h
+
 -- a relation of two waves that holds of their parts on an eighth, and of the negatives where it holds of the numbers
 module _
     (R : ℤ → ℤ → Type 0)
@@ -38,15 +46,11 @@ module _
     by-part true a h = hs a h
     by-part false a h = hc a h
 
-    by-fold : (c : Bool) (b : ℕ) → b < 2 ^ 29 → cond c b (2 ^ 29 - b) ≤ 2 ^ 29
-    by-fold true b h = omega arith
-    by-fold false b h = omega arith
-
     pub everywhere : (t : ℕ) → R (eighths S C t) (eighths S′ C′ t)
-    unfolding eighths signed part folded
+    unfolding eighths signed part
     everywhere t =
         let e = t / 2 ^ 29 in
-        by-sign (ltb e 4) _ _ (by-part (eqb (e % 4) 0 || eqb (e % 4) 3) _ (by-fold (eqb (e % 2) 0) (t % 2 ^ 29) (omega arith)))
+        by-sign (ltb e 4) _ _ (by-part (eqb (e % 4) 0 || eqb (e % 4) 3) _ (folded-size e (t % 2 ^ 29) (omega arith)))
 
 -- the sine in eighth e, from S(a) and C(a)
 abbrev pub sineIn : ℕ → ℕ → ℕ → ℤ
