@@ -1,10 +1,11 @@
-"""Runs the cases of the description (01, and T-01 and T-02 of 02) and its bounds on the second program; prints one line."""
+"""Runs the cases of the description (01, and T-01, T-02 and T-04 of 02) and its bounds on the second program; prints one line."""
 
 import struct
 from collections import Counter
 from fractions import Fraction
-from itertools import product
-from math import atan2, cos, factorial, hypot, inf, nan, nextafter, sin, sqrt
+from itertools import combinations, product
+from math import atan2, cos, factorial, floor, hypot, inf, nan, nextafter, sin, sqrt
+from operator import add
 
 import given
 import telling
@@ -36,6 +37,10 @@ def random_phases():
 
 def random_field(N):
     return [given.entry(chance) for _ in range(t.size(N))], [given.entry(chance) for _ in range(t.size(N))]
+
+
+def differences(before, after):
+    return [b - a for a, b in zip(before, after, strict=True)]
 
 
 def changes_of(five, N):
@@ -104,7 +109,7 @@ def cases():
     expect('P', t.move_c20(0, t.TIDE_FREE, t.MEAN, t.ANELASTIC), (0, -18114804))
     listing = b'model C20 C21 S21 C22 S22\nelastic 0 0 450700 -1500 0\nanelastic 10100 0 450100 -1500 0\n'
     expect('P', t.steptwo_program(bytes(24)), listing)                                                      # P7
-    expect('P', t.step_two_corrections((1 << 30, 0, 0, 0, 0, 0), t.ANELASTIC), (10100, 450100, 0, 1500, 0))  # P8
+    expect('P', t.step_two_corrections((1 << 30, 0, 0, 0, 0, 0), t.ANELASTIC, t.ALL_LINES), (10100, 450100, 0, 1500, 0))    # P8
     sheet = write_sheet([(2, 0, 0, 0, 0, 0)], [[1_000_000]], [(2, 2, [(1000, 0, 0, -500)])])                # P9
     expect('P', len(sheet), 34)
     for tau, wanted in ((0, (1000, 0)), (1 << 29, (0, -500))):
@@ -117,7 +122,7 @@ def cases():
         expect('cases', t.steptwo_program(bytes(size)), b'refused\n')
     expect('cases', t.field_test(4, [0] * 15, [0] * 15), 0)
     for c, s in ((14, 15), (15, 14), (14, 14)):
-        expect('cases', t.step_two(4, [7] * c, [8] * s, NONE, t.ELASTIC), (1, [7] * c, [8] * s))
+        expect('cases', t.step_two(4, [7] * c, [8] * s, NONE, t.ELASTIC, t.ALL_LINES), (1, None, [7] * c, [8] * s))
 
 
 # --- Doodson numbers and lines ---
@@ -266,22 +271,22 @@ def step_two():
     for i in range(400):
         phases, N = random_phases(), 4 if i % 5 else chance.between(4, 60)
         for love in LOVES:
-            five = t.step_two_corrections(phases, love)
-            for value, exact in zip(five, t.step_two_exact(phases, love), strict=True):
+            five = t.step_two_corrections(phases, love, t.ALL_LINES)
+            for value, exact in zip(five, t.step_two_exact(phases, love, t.ALL_LINES), strict=True):
                 within('step two', abs(value - exact), 1, strict=True)
             for value, real in zip(five, by_complex(printed(love), phases), strict=True):
                 within('step two by doubles', abs(value - real), 1, strict=True)
             C, S = random_field(N)
-            number, C2, S2 = t.step_two(N, C, S, phases, love)
-            expect('step two', (number, [b - a for a, b in zip(C, C2)], [b - a for a, b in zip(S, S2)]), (0, *changes_of(five, N)))
+            number, lines, C2, S2 = t.step_two(N, C, S, phases, love, t.ALL_LINES)
+            expect('step two', (number, lines, differences(C, C2), differences(S, S2)), (0, 49, *changes_of(five, N)))
             assert love == t.ANELASTIC or five[0] == 0
     for phases, c20 in telling.QUARTERS.items():
-        expect('step two', [t.step_two_corrections(phases, love)[0] for love in LOVES], [0, c20])
+        expect('step two', [t.step_two_corrections(phases, love, t.ALL_LINES)[0] for love in LOVES], [0, c20])
     for phases in telling.tie_phases():
         ties = 0
         for love in LOVES:
             sums = t.line_sums(t.printed_records(love), phases, t.sine, t.cosine)
-            for value, total in zip(t.step_two_corrections(phases, love), sums, strict=True):
+            for value, total in zip(t.step_two_corrections(phases, love, t.ALL_LINES), sums, strict=True):
                 if total % t.UNIT == t.UNIT // 2:
                     expect('step two', value, (total >> 30) + 1)                # the half goes up, whatever its sign
                     ties += 1
@@ -304,6 +309,141 @@ def permanent():
         expect('permanent', t.nearest(a0h0 * k20), t.PERMANENT[love])
 
 
+# --- Choosing which lines are used ---
+
+WAVES = (t.sine, t.cosine), (t.exact_sine_numerator, t.exact_cosine_numerator)
+
+
+def line_parts(phases, love, sin, cos):
+    """What each printed line alone gives the five, in counts times the unit of sin and cos: 01's rules, by the first digit of the line's number."""
+    parts = []
+    for number, one, two in t.PRINTED:
+        first, *others = map(int, f'{number:06d}')
+        phase = first * phases[0] + sum((digit - 5) * argument for digit, argument in zip(others, phases[1:], strict=True))
+        wave, anelastic = (sin(phase), cos(phase)), love == t.ANELASTIC
+        by_sine, by_cosine = (100 * (two if anelastic else one) * value for value in wave)
+        long_period = 100 * one * wave[1] - 100 * two * wave[0] if anelastic else 0
+        parts.append([(long_period, 0, 0, 0, 0), (0, by_sine, by_cosine, 0, 0), (0, 0, 0, by_cosine, -by_sine)][first])
+    return parts
+
+
+def check_selections(chosen, phases, love, N=4):
+    """Selections on fields: how many lines each names by its binary digits, every entry after the call, and each correction against the parts of
+    the lines named, those of the recipe rounded once and the exact ones. Answers the fives."""
+    parts, fives = [line_parts(phases, love, *wave) for wave in WAVES], []
+    for selection in chosen:
+        digits = f'{selection:b}'[::-1]
+        sums, exact = ([sum(part[i][which] for i, digit in enumerate(digits) if digit == '1') for which in range(5)] for part in parts)
+        exact = tuple(Fraction(total, t.EXACT_DENOMINATOR) for total in exact)
+        five = tuple(floor(Fraction(total, 1 << 30) + Fraction(1, 2)) for total in sums)
+        expect('selections', (t.step_two_corrections(phases, love, selection), t.step_two_exact(phases, love, selection)), (five, exact))
+        for value, total in zip(five, exact, strict=True):
+            within('selections', abs(value - total), 1, strict=True)
+        C, S = random_field(N)
+        number, lines, C2, S2 = t.step_two(N, C, S, phases, love, selection)
+        expect('selections', (number, lines, differences(C, C2), differences(S, S2)), (0, digits.count('1'), *changes_of(five, N)))
+        fives.append(five)
+    return fives
+
+
+def hard_selections(phases, love):
+    """For each of the five and each sign, the lines whose waves err with that sign there: no selection's sum lies further from its exact one."""
+    kept, exact = (line_parts(phases, love, *wave) for wave in WAVES)
+    for which, sign in product(range(5), (1, -1)):
+        errors = [sign * (a[which] * t.EXACT_DENOMINATOR - b[which] * t.UNIT) for a, b in zip(kept, exact, strict=True)]
+        yield sum(1 << i for i, error in enumerate(errors) if error > 0)
+
+
+# The lines of the second profile, read off 01.
+MAJOR = [
+    145545, 145555, 155655, 162556, 163555, 164556, 165545, 165555, 165565, 165575, 166554, 167555, 175455,
+    55565, 56554, 57555, 65455, 75555, 75565, 85455, 255555]
+
+
+def profiles():
+    """All lines, and those whose anelastic amplitude has two digits or more; ten is in it, nine is not, by ip and by op."""
+    numbers = lambda selection: [number for digit, (number, _, _) in zip(f'{selection:b}'[::-1], t.PRINTED) if digit == '1']
+    expect('profiles', t.ALL_LINES, 2**49 - 1)
+    expect('profiles', numbers(t.MAJOR_LINES), MAJOR)
+    digits = lambda amplitude: len(str(abs(amplitude)))
+    expect('profiles', [number for number, one, two in t.PRINTED if digits(two) > 1 or number < 100_000 and digits(one) > 1], MAJOR)
+    two_amplitudes = (9, 9), (10, 0), (0, 10), (-9, -9), (-10, 9), (-9, -10), (0, 0), (11, -1)
+    expect('profiles', t.at_least(10, [(*NONE, ip, op) for ip, op in two_amplitudes]), 0b10110110)
+
+
+def selections(hardest):
+    profiles()
+    alone, every = [1 << i for i in range(49)], 2**49 - 1
+    bands = [2**26 - 1, 2**47 - 2**26, 3 << 47]
+    expect('selections', given.BANDS, bands)
+    for love in LOVES:
+        for chosen in (alone, [every ^ one for one in alone], [2**i - 1 for i in range(50)], [every + 1 - 2**i for i in range(50)]):
+            check_selections(chosen, random_phases(), love)
+        for N in (4, 5, 60):
+            fives = check_selections([0, *bands, every, t.MAJOR_LINES], random_phases(), love, N)
+            expect('selections', fives[0], (0,) * 5)
+            expect('selections', tuple(map(sum, zip(*fives[1:4]))), fives[4])       # no two bands give to one of the five
+        for _ in range(20):
+            check_selections([given.accepted_selection(chance) for _ in range(12)], random_phases(), love, chance.between(4, 12))
+        awkward = [NONE, (U32,) * 6, (hardest, 0, 0, 0, 0, 0), *(telling.at_s(hardest * k) for k in range(4)), telling.DAY_PHASES]
+        awkward += [tuple((chance.below(8) << 29) + chance.between(-1, 1) & U32 for _ in range(6)) for _ in range(4)]
+        for phases in (*awkward, *telling.tie_phases()):
+            check_selections([*hard_selections(phases, love), chance.one(*alone), given.accepted_selection(chance)], phases, love)
+    told_apart(alone)
+    for selection, phases, five in telling.faint_lines():
+        expect('selections', check_selections([selection], phases, t.ANELASTIC), [five])
+        lines = check_selections([one for one in alone if one & selection], phases, t.ANELASTIC)
+        expect('selections', {value % 100 for line in lines for value in line}, {0})       # alone, nothing by the small wave
+    for (sin, cos), love, _ in product(WAVES, LOVES, range(25)):                # nothing rounded: disjoint selections add up
+        phases, one, two = random_phases(), given.accepted_selection(chance), given.accepted_selection(chance)
+        two &= ~one
+        sums = [t.step_two_sums(phases, love, selection, sin, cos) for selection in (one, two, one | two)]
+        expect('selections', tuple(map(add, *sums[:2])), sums[2])
+    # every selection's bound, from the table: two units of 2^-30 for each wave, and the rounding's half count
+    for love, band in product(LOVES, range(3)):
+        tenths = sum(abs(ip) + abs(op) for first, *_, ip, op in printed(love) if first == band)
+        expect('selections', 100 * tenths * 2 < 1 << 29, True)
+    selection_refusals(alone)
+
+
+def told_apart(alone):
+    """At LINE_PHASES any line that the model uses is told from none and from any other, whatever their signs; one that it does not adds nothing."""
+    for love in LOVES:
+        fives = check_selections(alone, telling.LINE_PHASES, love)
+        unused = range(26, 47) if love == t.ELASTIC else ()
+        expect('selections', {fives[i] for i in unused} - {(0,) * 5}, set())
+        sizes = [(0,) * 5, *([*map(abs, five)] for i, five in enumerate(fives) if i not in unused)]
+        apart = (max(abs(a - b) for a, b in zip(one, two)) for one, two in combinations(sizes, 2))
+        expect('selections', min(apart) >= 10, True)
+
+
+def selection_refusals(alone):
+    """14 for each bit above 48, 1 and 2 before it, and nothing changed; 48 is the last bit that passes."""
+    def answer(number, selection):
+        N, phases, love = chance.one(4, 4, 12), random_phases(), chance.one(*LOVES)
+        C, S = random_field(N)
+        step = lambda *field: t.step_two(*field, phases, love, selection)
+        got, lines, C2, S2 = step(N, C, S)
+        expect('selections', (got, lines), (number, None) if number else (0, f'{selection:b}'.count('1')))
+        assert number == 0 or (C2, S2) == (C, S)
+        expect('selections', step(N, C[1:], S), (1, None, C[1:], S))
+        expect('selections', step(3, C, S), (1, None, C, S))
+        spoilt = given.spoilt(C, chance.below(len(C)), chance.one((1 << 60) + 1, -(1 << 63)))
+        expect('selections', step(N, spoilt, S), (2, None, spoilt, S))
+        expect('selections', step(N, S, spoilt), (2, None, S, spoilt))
+
+    for selection in (0, 1, 1 << 48, 2**49 - 1, 2**49 - 2, t.MAJOR_LINES, *(given.accepted_selection(chance) for _ in range(20))):
+        answer(0, selection)
+    for bit in range(49, 64):
+        for others in (0, 1, 1 << 48, 2**49 - 1, t.MAJOR_LINES, chance.one(*alone), given.accepted_selection(chance)):
+            answer(14, 1 << bit | others)
+    for selection in (2**49, 2**49 + 1, 2**64 - 1, 2**64 - 2**49, 2**63 - 1, *(chance.word() | 1 << chance.between(49, 63) for _ in range(40))):
+        answer(14, selection)
+    for _ in range(200):
+        selection = given.selection(chance)
+        expect('selections', t.selection_test(selection), 14 if any(selection & 1 << bit for bit in range(49, 64)) else 0)
+
+
 # --- Tide lines of our own ---
 
 def check_own(records, phases, N=4):
@@ -313,7 +453,7 @@ def check_own(records, phases, N=4):
         within('own lines', abs(value - exact), 3)
     C, S = random_field(N)
     number, C2, S2 = t.own_lines(N, C, S, records, phases)
-    expect('own lines', (number, [b - a for a, b in zip(C, C2)], [b - a for a, b in zip(S, S2)]), (0, *changes_of(five, N)))
+    expect('own lines', (number, differences(C, C2), differences(S, S2)), (0, *changes_of(five, N)))
     return five
 
 
@@ -396,7 +536,7 @@ def own_lines(hardest):
         expect('own lines', check_own(records, phases)[which], total + (1 << 29) >> 30)
     for love, _ in product(LOVES, range(60)):                                   # the printed lines, lent
         phases = random_phases()
-        expect('own lines', check_own(printed(love), phases), t.step_two_corrections(phases, love))
+        expect('own lines', check_own(printed(love), phases), t.step_two_corrections(phases, love, t.ALL_LINES))
     own_line_refusals()
 
 
@@ -601,7 +741,7 @@ def day():
     """The worked day: its counts were made with doubles, apart from this program."""
     number, corrections = t.step_one_corrections(*telling.DAY_BODIES, t.ANELASTIC)
     expect('day', (number, {(n, m): both for n, m, *both in corrections if n == 2}), (0, telling.DAY_STEP_ONE))
-    expect('day', t.step_two_corrections(telling.DAY_PHASES, t.ANELASTIC), telling.DAY_STEP_TWO)
+    expect('day', t.step_two_corrections(telling.DAY_PHASES, t.ANELASTIC, t.ALL_LINES), telling.DAY_STEP_TWO)
 
 
 def main():
@@ -613,6 +753,7 @@ def main():
     table_6_2b()
     step_two()
     permanent()
+    selections(hardest)
     sheet_faults()
     ocean(hardest)
     step_one_values()

@@ -1,4 +1,4 @@
-"""What is given to the calls: fields, phases, bodies, records and sheets, drawn by a Chance."""
+"""What is given to the calls: fields, phases, selections, bodies, records and sheets, drawn by a Chance."""
 
 import struct
 from math import inf, nan, nextafter
@@ -46,6 +46,31 @@ def phase(chance):
 
 def phases(chance):
     return tuple(phase(chance) for _ in range(6))
+
+
+# --- Selections ---
+
+LINES = range(49)
+BANDS = [sum(1 << i for i in band) for band in (LINES[:26], LINES[26:47], LINES[47:])]      # diurnal, long period, semidiurnal
+ABOVE = [1 << bit for bit in range(49, 64)]
+
+
+def few_lines(chance):
+    return sum(1 << i for i in chance.some(chance.below(5), LINES))
+
+
+def accepted_selection(chance):
+    """A selection of printed lines alone: any, few, all but few, some of one band, a band or all else, a profile or all else."""
+    band, any_lines = chance.one(*BANDS), chance.word() & t.ALL_LINES
+    return chance.one(any_lines, any_lines, few_lines(chance), t.ALL_LINES ^ few_lines(chance), band & any_lines,
+                      chance.one(band, t.ALL_LINES ^ band), chance.one(t.ALL_LINES, t.MAJOR_LINES, t.ALL_LINES ^ t.MAJOR_LINES))
+
+
+def selection(chance):
+    """A selection, one in eight with bits above the printed lines: one, any of them or all."""
+    every = sum(ABOVE)
+    above = chance.one(chance.one(*ABOVE), chance.one(*ABOVE) | chance.word() & every, every)
+    return accepted_selection(chance) | (above if chance.one_in(8) else 0)
 
 
 # --- Bodies ---

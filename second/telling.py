@@ -142,6 +142,30 @@ def wave_phases():
         yield from ((e << 29) + (t.EIGHTH - a if e % 2 else a) & t.TURN - 1 for e in range(8))
 
 
+# --- Choosing which lines are used ---
+
+# In either model each line that it uses gives here, alone, five corrections of its own: the largest at least 10 counts, and of any two lines two
+# at least 10 counts apart, whatever their signs.
+LINE_PHASES = 3681209917, 2531394245, 571246955, 4280242467, 4140225098, 3048987116
+
+FAINT_PHASE = 410140         # its sine is 0.0006
+
+
+def faint_lines():
+    """Selections and phases, and the five in the anelastic model. One of the waves is so small that no line alone gives half a count by it, in the
+    sums C21, S21, C20 and S22; the lines named give more."""
+    named = lambda chosen: sum(1 << i for i, (number, _, _) in enumerate(t.PRINTED) if number in chosen)
+    below = named([number for number, _, amplitude in t.DIURNAL if -9 <= amplitude < 0])        # -30 tenths
+    above = named([number for number, _, amplitude in t.DIURNAL if 0 < amplitude <= 9])         # 16
+    by_s = named([63655, 75355, 75575, 83655, 93555, 95355])            # op times the multiplier of s: 35 tenths; ip: 0
+    yield below, (FAINT_PHASE, 0, 0, 0, 0, 0), (0, -2, -3000, 0, 0)
+    yield above, (FAINT_PHASE, 0, 0, 0, 0, 0), (0, 1, 1600, 0, 0)
+    yield below, (t.UNIT - FAINT_PHASE, 0, 0, 0, 0, 0), (0, -3000, -2, 0, 0)
+    yield above, (t.UNIT + FAINT_PHASE, 0, 0, 0, 0, 0), (0, 1600, -1, 0, 0)
+    yield by_s, (0, FAINT_PHASE, 0, 0, 0, 0), (-2, 0, 0, 0, 0)
+    yield named([245655, 255555]), (FAINT_PHASE // 3, 0, 0, 0, 0, 0), (0, 0, 0, -1500, 1)
+
+
 # --- A day ---
 
 # The Moon, the Sun and the phases of 2004 May 17, 0h; anelastic, step one gives the degree-2 counts below, step two the five after them.

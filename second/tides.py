@@ -1,4 +1,4 @@
-"""Tide corrections to a gravity field: a second program, written from the description (01, and T-01 and T-02 of 02) alone.
+"""Tide corrections to a gravity field: a second program, written from the description (01, and T-01, T-02 and T-04 of 02) alone.
 
 Coefficients are whole counts of 10^-15. Every call that can refuse answers the refusal number first, 0 where it accepts.
 Whole numbers and Fractions throughout; floats (IEEE binary64) only in step one.
@@ -187,12 +187,15 @@ def exact_cosine(phase):
     return Fraction(exact_cosine_numerator(phase), EXACT_DENOMINATOR)
 
 
-# --- Step two ---
+# --- Step two, and the choice of its lines (02, T-04) ---
 
 def printed_records(love):
-    """'Step two': the model's printed lines: six multipliers, the in-phase and the out-of-phase amplitude, which is 0 outside the long period."""
+    """'Step two': every printed line in 01's order: six multipliers, the model's in-phase and out-of-phase amplitude.
+
+    The second is 0 outside the long period; in it both are 0 for the elastic model ("anelastic only").
+    """
     lines = [(number, {ELASTIC: elastic, ANELASTIC: anelastic}[love], 0) for number, elastic, anelastic in DIURNAL]
-    lines += LONG_PERIOD if love == ANELASTIC else ()
+    lines += [(number, ip, op) if love == ANELASTIC else (number, 0, 0) for number, ip, op in LONG_PERIOD]
     lines += [(number, amplitude, 0) for number, amplitude, _ in SEMIDIURNAL]
     return [(*doodson_read(number)[1], ip, op) for number, ip, op in lines]
 
@@ -216,32 +219,58 @@ def line_sums(records, phases, sin, cos):
     return c20, c21, s21, c22, s22
 
 
-def step_two_corrections(phases, love):
+def at_least(tenths, records):
+    """'Choosing which lines are used': the records whose "amplitude (either of ip and op)" is at least so many tenths "in absolute value"."""
+    return sum(1 << i for i, (*_, ip, op) in enumerate(records) if abs(ip) >= tenths or abs(op) >= tenths)
+
+
+# The two profiles: "all lines, and those whose anelastic amplitude [..] is at least ten tenths".
+ALL_LINES = (1 << len(PRINTED)) - 1
+MAJOR_LINES = at_least(10, printed_records(ANELASTIC))
+
+
+def named_lines(selection):
+    """'Choosing which lines are used': the indices of the lines named, as "bit i stands for line i, in 01's order"."""
+    return [i for i in range(len(PRINTED)) if selection >> i & 1]
+
+
+def selection_test(selection):
+    """'Choosing which lines are used', refusal 14: "a bit above 48" in an unsigned number."""
+    return 14 if selection > ALL_LINES else 0
+
+
+def step_two_sums(phases, love, selection, sin, cos):
+    """'Choosing which lines are used': line_sums over "the lines named there only"."""
+    records = printed_records(love)
+    return line_sums([records[i] for i in named_lines(selection)], phases, sin, cos)
+
+
+def step_two_corrections(phases, love, selection):
     """'Step two': the corrections to C20, C21, S21, C22, S22 in counts, each rounded once."""
-    return tuple(nearest(total, UNIT) for total in line_sums(printed_records(love), phases, sine, cosine))
+    return tuple(nearest(total, UNIT) for total in step_two_sums(phases, love, selection, sine, cosine))
 
 
-def step_two_exact(phases, love):
+def step_two_exact(phases, love, selection):
     """'Step two' by the exact counterpart: the five sums as Fractions, in counts."""
-    sums = line_sums(printed_records(love), phases, exact_sine_numerator, exact_cosine_numerator)
+    sums = step_two_sums(phases, love, selection, exact_sine_numerator, exact_cosine_numerator)
     return tuple(Fraction(total, EXACT_DENOMINATOR) for total in sums)
 
 
-def step_two(N, C, S, phases, love):
-    """'Step two' on a field: (number, C after, S after); refusals 1, 2."""
-    refusal = field_test(N, C, S)
+def step_two(N, C, S, phases, love, selection):
+    """'Step two' on a field: (number, "how many lines the selection names" or None, C after, S after); refusals 1, 2, 14."""
+    refusal = field_test(N, C, S) or selection_test(selection)
     if refusal:
-        return refusal, list(C), list(S)
-    return 0, *added_five(C, S, step_two_corrections(phases, love))
+        return refusal, None, list(C), list(S)
+    return 0, len(named_lines(selection)), *added_five(C, S, step_two_corrections(phases, love, selection))
 
 
 def steptwo_program(data):
-    """'Cases': the whole output of the program steptwo for the bytes of its input."""
+    """'Cases': the whole output of the program steptwo for the bytes of its input; it "keeps using all lines"."""
     if len(data) != 24:
         return b'refused\n'
     phases = struct.unpack('<6I', data)
     rows = [('model', 'C20', 'C21', 'S21', 'C22', 'S22')]
-    rows += [(love, *step_two_corrections(phases, love)) for love in (ELASTIC, ANELASTIC)]
+    rows += [(love, *step_two_corrections(phases, love, ALL_LINES)) for love in (ELASTIC, ANELASTIC)]
     return ''.join(' '.join(map(str, row)) + '\n' for row in rows).encode('ascii')
 
 

@@ -5,7 +5,7 @@ python3 values.py --check   makes them anew; exits 1 with one line where a store
 
 Numbers stand little-endian. The input begins with the number of its cases, in 32 bits. A case is a byte for the call, and what it takes; a call
 over a field takes first the degree, the lengths of both lists, and their entries. A line is the refusal's number, or 0 and the values
-answered; of a call over a field, the number and every entry of both lists as they are afterwards.
+answered; of a call over a field, every entry of both lists as they are afterwards follows.
 The cases of own_lines stand in the words that tests/boundary/values.py writes for the C boundary, each on a field of its own.
 These are some hundreds of cases that show each call at its edges. tests/boundary/values.py holds the calls to thousands, made when it runs.
 """
@@ -89,9 +89,9 @@ def numbers():
 def over_field(N, C, S, call):
     """A call is its byte, its name, its own bytes, and what it does to a field. Answers the field afterwards."""
     kind, name, data, does = call
-    number, after_c, after_s = does(N, C, S)
+    number, *values, after_c, after_s = does(N, C, S)
     lists = struct.pack('<III', N, len(C), len(S)) + struct.pack(f'<{len(C) + len(S)}q', *C, *S)
-    case(kind, name, lists + data, number, (*after_c, *after_s))
+    case(kind, name, lists + data, number, (*(() if number else values), *after_c, *after_s))
     return N, after_c, after_s
 
 
@@ -105,9 +105,9 @@ def step_one(moon, sun, love):
     return 4, 'step_one', data, lambda N, C, S: t.step_one(N, C, S, moon, sun, love)
 
 
-def step_two(phases, love):
-    data = bytes((LOVES.index(love),)) + struct.pack('<6I', *phases)
-    return 5, 'step_two', data, lambda N, C, S: t.step_two(N, C, S, phases, love)
+def step_two(phases, love, selection=t.ALL_LINES):
+    data = bytes((LOVES.index(love),)) + struct.pack('<6IQ', *phases, selection)
+    return 5, 'step_two', data, lambda N, C, S: t.step_two(N, C, S, phases, love, selection)
 
 
 def ocean_tide(sheet, phases, frame):
@@ -269,11 +269,44 @@ def own():
         own_lines(4, spoilt(ZEROS[1], chance.below(15), EDGE + 1), ZEROS[2], bad, NONE)
 
 
+# --- Choosing which lines are used ---
+
+def selections():
+    """Each line alone, two at a border and all but those, each band, none, the profiles, small lines together; 14, and 1 and 2 before it."""
+    varied = lambda: given.varied_field(chance, 4)
+    at_lines = lambda selection, love: over_field(*ZEROS, step_two(telling.LINE_PHASES, love, selection))
+    for i in given.LINES:
+        at_lines(1 << i, t.ANELASTIC if 1 << i & given.BANDS[1] else LOVES[i % 2])
+    for i in (26, 27, 37, 46):                                                  # counted, and adds nothing
+        over_field(*varied(), step_two(given.phases(chance), t.ELASTIC, 1 << i))
+    for i, j in ((0, 48), (25, 26), (31, 32), (46, 47)):
+        at_lines(1 << i | 1 << j, t.ANELASTIC)
+        at_lines(t.ALL_LINES ^ (1 << i | 1 << j), chance.one(*LOVES))
+    for selection, love in product((0, *given.BANDS, t.ALL_LINES, t.MAJOR_LINES), LOVES):
+        over_field(*varied(), step_two(given.phases(chance), love, selection))
+    for selection, phases, _ in telling.faint_lines():
+        over_field(*ZEROS, step_two(phases, t.ANELASTIC, selection))
+    for i in range(10):
+        over_field(*varied(), step_two(given.phases(chance), LOVES[i % 2], given.accepted_selection(chance)))
+    call = step_two(telling.LINE_PHASES, t.ANELASTIC, t.ALL_LINES ^ t.MAJOR_LINES)
+    over_field(*over_field(*ZEROS, call), call)
+    over = step_two(given.phases(chance), t.ANELASTIC, t.MAJOR_LINES | 1 << 49)
+    for selection in (*given.ABOVE, 1 << 49 | 1, 1 << 63 | t.ALL_LINES, (1 << 64) - 1, (1 << 64) - (1 << 49)):
+        over_field(*ZEROS, step_two(telling.LINE_PHASES, chance.one(*LOVES), selection))
+    over_field(*varied(), over)
+    for N, c in ((3, 15), (61, 15), (4, 14)):
+        over_field(N, [5] * c, [6] * 15, over)
+    for entry in (EDGE + 1, LEAST_64):
+        over_field(4, spoilt(ZEROS[1], chance.below(15), entry), ZEROS[2], over)
+        over_field(4, ZEROS[1], spoilt(ZEROS[2], chance.below(15), entry), over)
+
+
 def main():
     numbers()
     solid()
     ocean()
     own()
+    selections()
     in_lines = lambda texts: ''.join(text + '\n' for text in texts).encode('ascii')
     files = {'crates/run/stdin': struct.pack('<I', len(cases)) + b''.join(cases), 'crates/run/stdout': in_lines(lines),
              'tests/boundary/stored.txt': in_lines(worded)}

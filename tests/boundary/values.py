@@ -1,8 +1,8 @@
 """Writes calls and the second program's answers to them, as words, for values.c: `python3 values.py > FILE`.
 
 `field`, a degree and two lists lend a field; the calls after it are made on it in turn. A call is its name, what is given (floats as their bits,
-records after how many there are), the number answered, and the results, or for each list the entries changed. All other entries must stay as they
-were.
+records after how many there are), the number answered, where that is 0 the results, and on a field for each list the entries changed. All other
+entries must stay as they were.
 """
 
 import struct
@@ -36,8 +36,8 @@ def step_one(moon, sun, love):
     return 'step_one', love, *((KINDS.index(kind), ratio, *floats) for ratio, (kind, *floats) in (moon, sun))
 
 
-def step_two(phases, love):
-    return 'step_two', love, phases
+def step_two(phases, love, selection=t.ALL_LINES):
+    return 'step_two', love, phases, selection
 
 
 def ocean_tide(data, phases, frame):
@@ -60,7 +60,7 @@ def named(cases, number):
 
 
 def on_field(call, N, C, S):
-    """(number, C after, S after) of a call on a field."""
+    """(number, results if there are any, C after, S after) of a call on a field."""
     name, *args = call
     if name == 'own_lines':
         return t.own_lines(N, C, S, *args)
@@ -71,7 +71,7 @@ def on_field(call, N, C, S):
             return t.step_one(N, C, S, *((ratio, (kind, *floats)) for kind, (_, ratio, *floats) in zip(kinds, rest)), love)
     elif name == 'step_two':
         if named(LOVES, choice):
-            return t.step_two(N, C, S, rest[0], named(LOVES, choice))
+            return t.step_two(N, C, S, rest[0], named(LOVES, choice), rest[1])
     elif named(FRAMES, choice):
         return t.ocean(N, C, S, rest[1], rest[0], named(FRAMES, choice))
     return NO_SUCH_CHOICE, C, S
@@ -118,7 +118,7 @@ def given_words(call):
     if name == 'step_one':
         return name, choice, *(word for kind, *floats in rest for word in (kind, *map(bits, floats)))
     if name == 'step_two':
-        return name, choice, *rest[0]
+        return name, choice, *rest[0], rest[1]
     return name, choice, *rest[0], len(rest[1]), rest[1].hex() or '-'
 
 
@@ -131,8 +131,8 @@ def words(case):
     (N, C, S), calls = case
     yield 'field', N, *listed(C), *listed(S)
     for call in calls:
-        number, C2, S2 = on_field(call, N, C, S)
-        yield *given_words(call), number, *changes(C, C2), *changes(S, S2)
+        number, *results, C2, S2 = on_field(call, N, C, S)
+        yield *given_words(call), number, *(() if number else results), *changes(C, C2), *changes(S, S2)
         C, S = C2, S2
 
 
@@ -187,6 +187,17 @@ def fields(call):
                 yield (N, fine, g.spoilt(fine, i, entry)), [call, call]
     for N in range(4, 61):
         yield g.any_field(chance, N), [call, call]                      # and again on its own result
+
+
+def some_fields(call):
+    """A few of the fields above, for a call that may be refused with a number after 2."""
+    for N in (0, 3, 61, 1 << 31, g.U32):
+        yield (N, *ZEROS[1:]), [call]
+    for c, s in ((14, 15), (15, 16), (0, 0), (91, 91)):
+        yield (4, [5] * c, [6] * s), [call]
+    for entry in (g.EDGE, g.EDGE + 1, -g.EDGE - 1, g.LEAST_64, -1 - g.LEAST_64):
+        yield (4, g.spoilt(ZEROS[1], chance.below(15), entry), ZEROS[2]), [call, call]
+        yield (12, [3] * 91, g.spoilt([4] * 91, chance.below(91), entry)), [call, call]
 
 
 def choices(call):
@@ -299,6 +310,60 @@ def lines():
         yield g.any_field(chance, N), calls * 2
 
 
+def both_models(phases, selection):
+    return [step_two(phases, love, selection) for love in range(2)]
+
+
+def some_lines(selection):
+    return step_two(g.phases(chance), some_love(), selection)
+
+
+def selections():
+    """Each line alone and all but it, two at a time, the bands, the profiles and none, lines at ties and small ones together; and any, in rows."""
+    yield from selections_refused()
+    at_lines = lambda *chosen: [call for selection in chosen for call in both_models(telling.LINE_PHASES, selection)]
+    yield ZEROS, at_lines(0, t.ALL_LINES, t.MAJOR_LINES, *g.BANDS)
+    for i in g.LINES:
+        one = 1 << i
+        yield ZEROS, at_lines(one) + [call for phases in (g.NONE, telling.DAY_PHASES, g.phases(chance)) for call in both_models(phases, one)]
+        yield ZEROS, at_lines(t.ALL_LINES ^ one, (one << 1) - 1, t.ALL_LINES ^ one - 1)         # all but it, those up to it, those from it on
+        yield g.varied_field(chance, chance.between(4, 8)), both_models(g.phases(chance), one | 1 << chance.below(49))
+    odd = [i for i, (number, one, two) in enumerate(t.PRINTED) if number > 100_000 and one % 2 and two % 2]
+    for phases in telling.tie_phases():                                 # one or three odd amplitudes are at a tie at many of them
+        yield ZEROS, [call for count in (1, 3) for call in both_models(phases, sum(1 << i for i in chance.some(count, odd)))]
+    for selection, phases, _ in telling.faint_lines():
+        yield ZEROS, both_models(phases, selection)
+    for selection, _ in product((0, t.ALL_LINES, t.MAJOR_LINES, t.ALL_LINES ^ t.MAJOR_LINES, *g.BANDS), range(6)):
+        yield g.any_field(chance, chance.between(4, 10)), both_models(g.phases(chance), selection)
+    for _ in range(150):
+        phases, chosen = g.phases(chance), [g.selection(chance) for _ in range(4)]
+        yield g.varied_field(chance, chance.between(4, 8)), [step_two(phases, some_love(), selection) for selection in (*chosen, chosen[0])]
+    for _ in range(30):                                                 # other calls between them
+        calls = [some_lines(g.selection(chance)) for _ in range(3)]
+        between = [step_one(g.moon(chance), g.sun(chance), some_love()), some_own(g.records(chance, chance.below(9)))]
+        yield g.varied_field(chance, 4), [calls[0], between[0], calls[1], between[1], calls[2]]
+    for N in (4, 5, 17, 60):                                            # on its own result, and refused with 2 where that left the range
+        calls = [some_lines(g.accepted_selection(chance)), some_lines(0), some_lines(g.accepted_selection(chance) | 1 << 49)]
+        yield (N, [g.EDGE] * t.size(N), [-g.EDGE] * t.size(N)), calls
+        yield (N, [-g.EDGE] * t.size(N), [g.EDGE] * t.size(N)), calls
+        yield g.any_field(chance, N), calls
+
+
+def selections_refused():
+    """14 for each bit above 48, alone and beside others, between calls that pass; and 100, 1 and 2 before it."""
+    fields = [g.varied_field(chance, N) for N in (4, 5, 12)]
+    most = (1 << 64) - 1
+    for i, bit in enumerate(g.ABOVE):
+        beside = [0, 1, 1 << 48, t.MAJOR_LINES, t.ALL_LINES, g.accepted_selection(chance)]
+        yield fields[i % 3], [call for others in beside for call in (some_lines(bit | others), some_lines(others))]
+    for selection in (most, most ^ t.ALL_LINES, most ^ 1, most ^ 1 << 48, most ^ 1 << 49, 1 << 49, 1 << 49 | 1 << 48, 3 << 49):
+        yield fields[0], [*both_models(g.phases(chance), selection), some_lines(1 << 48)]
+    for selection in (0, 1 << 48, t.ALL_LINES, t.MAJOR_LINES, *g.ABOVE[::7], g.ABOVE[0] | t.ALL_LINES, most):
+        call = some_lines(selection)
+        yield from choices(call)
+        yield from some_fields(call)
+
+
 # --- Tide lines of our own ---
 
 def some_own(records):
@@ -330,14 +395,7 @@ def records_refused():
         right, wrong = g.records(chance, count), g.faulty_records(chance, count)
         yield fields[0], [some_own(right), some_own(wrong), some_own(g.spoilt(right, chance.one(0, count - 1), wrong[0])), some_own(right)]
     for records in ([], [good], faults[:1], faults[-1:], [good] * 65, g.faulty_records(chance, 65), g.faulty_records(chance, 200)):
-        call = some_own(records)
-        for N in (0, 3, 61, 1 << 31, g.U32):
-            yield (N, *ZEROS[1:]), [call]
-        for c, s in ((14, 15), (15, 16), (0, 0), (91, 91)):
-            yield (4, [5] * c, [6] * s), [call]
-        for entry in (g.EDGE, g.EDGE + 1, -g.EDGE - 1, g.LEAST_64, -1 - g.LEAST_64):
-            yield (4, g.spoilt(ZEROS[1], chance.below(15), entry), ZEROS[2]), [call, call]
-            yield (12, [3] * 91, g.spoilt([4] * 91, chance.below(91), entry)), [call, call]
+        yield from some_fields(some_own(records))
 
 
 def own_waves():
@@ -490,7 +548,7 @@ def cases():
     for part in (bodies, body_edges, bounds_of_six, ordinary_bodies, halves, lines, layouts, sheet_values, synthesis, ocean_ties, waves):
         yield from part()
     yield from fields(own_lines(telling.OWN_RECORDS, (1, 2, 3, 4, 5, 6)))
-    for part in (records_refused, own_waves, own_lists):
+    for part in (records_refused, own_waves, own_lists, selections):
         yield from part()
 
 

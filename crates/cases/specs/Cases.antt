@@ -18,6 +18,7 @@ use Rattle.doodson.specs.Doodson.{readDoodson, writeDoodson}
 use Rattle.refusals.specs.Outcome.{Outcome}
 use Rattle.listing.specs.Listing.{listingOf}
 use Rattle.permanent.specs.Systems.{movedC20}
+use Rattle.selection.specs.Selection.{allLines}
 use Rattle.sheet.specs.Accepted.{sheetRefusal}
 use Rattle.step_two.specs.StepTwo.{corrections}
 use Rattle.surfgimlet.specs.Calls.{oceanTide}
@@ -68,7 +69,7 @@ pub record Cases : Type 0 where
   -- "the listing below", on 24 zero bytes
   pub p7 : listingOf (replicate 24 0) ≡ ascii "model C20 C21 S21 C22 S22\nelastic 0 0 450700 -1500 0\nanelastic 10100 0 450100 -1500 0\n"
   -- "tau 2^30, others 0, anelastic: 10100, 450100, 0, 1500, 0"
-  pub p8 : corrections (tauAlone (2 ^ 30)) Anelastic ≡ counts (pos 10100) (pos 450100) (pos 0) (pos 1500) (pos 0)
+  pub p8 : corrections (tauAlone (2 ^ 30)) Anelastic allLines ≡ counts (pos 10100) (pos 450100) (pos 0) (pos 1500) (pos 0)
   -- "phases 0 give 1000, 0; tau 2^29 gives 0, -500. Its 34 bytes pass; 33 or 35: refusal 7.", in either frame
   pub p9-zero : (frame : Frame) → oceanTide 4 zeros zeros sheet (tauAlone 0) frame ≡ atPlace22 (pos 1000) (pos 0)
   pub p9-eighth : (frame : Frame) → oceanTide 4 zeros zeros sheet (tauAlone (2 ^ 29)) frame ≡ atPlace22 (pos 0) (negℤ (pos 500))

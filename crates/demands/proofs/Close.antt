@@ -9,7 +9,6 @@ use Rattle.bands.specs.declared.Corrections.{Corrections}
 use Rattle.bands.specs.Bands.{Coefficient, C20, C21, S21, C22, S22}
 use Rattle.choices.specs.declared.Frame.{Frame}
 use Rattle.choices.specs.declared.LoveModel.{LoveModel}
-use Rattle.field.specs.Field.{fieldRefusal}
 use Rattle.own.specs.declared.OwnLine.{OwnLine}
 use Rattle.own.specs.Own.{ownCorrections}
 use Rattle.own_bound.specs.Exact.{withinThreeCounts, exactSum as ownSum}
@@ -20,7 +19,7 @@ use Rattle.ocean_bound.proofs.Bound.{close-to-exact}
 use Rattle.step_two.specs.StepTwo.{corrections}
 use Rattle.step_two_bound.specs.Exact.{lessThanOneCount, exactSum as lineSum}
 use Rattle.step_two_bound.proofs.Bound.{step-two-close}
-use Rattle.surfgimlet.specs.Calls.{stepTwo, ownLinesRefusal, ownLines, oceanRefusal, oceanTide}
+use Rattle.surfgimlet.specs.Calls.{stepTwoRefusal, stepTwo, ownLinesRefusal, ownLines, oceanRefusal, oceanTide}
 use Rattle.surfgimlet.proofs.OceanTide.{passing}
 use Rattle.whole.proofs.Ring.{equal, !, _⊕_, _⊖_}
 use Rattle.demands.specs.Demands.{at, gained, FiveEntries, FiveClose, OceanClose}
@@ -44,10 +43,11 @@ module _ {near : ℤ → ℤ → Type 0} (c s : List ℤ) (o : Outcome) (d : Cor
     s22 = by-gain near s (o .s) _ _ _ (e .s22) s22;
   }
 
-pub step-two : (n : ℕ) (c s : List ℤ) (phases : Phases) (love : LoveModel) → fieldRefusal n c s ≡ 0 → FiveClose lessThanOneCount c s (stepTwo n c s phases love) (lineSum phases love)
-step-two n c s phases love passed =
-    let k = step-two-close phases love in
-    five c s (stepTwo n c s phases love) (corrections phases love) (lineSum phases love) (step-two-entries n c s phases love passed) (k .c20) (k .c21) (k .s21) (k .c22) (k .s22)
+pub step-two : (n : ℕ) (c s : List ℤ) (phases : Phases) (love : LoveModel) (selection : ℕ) → stepTwoRefusal n c s selection ≡ 0
+    → FiveClose lessThanOneCount c s (stepTwo n c s phases love selection) (lineSum phases love selection)
+step-two n c s phases love selection passed =
+    let k = step-two-close phases love selection in
+    five c s (stepTwo n c s phases love selection) (corrections phases love selection) (lineSum phases love selection) (step-two-entries n c s phases love selection passed) (k .c20) (k .c21) (k .s21) (k .c22) (k .s22)
 
 pub own-lines : (n : ℕ) (c s : List ℤ) (lines : List OwnLine) (phases : Phases) → ownLinesRefusal n c s lines ≡ 0
     → FiveClose withinThreeCounts c s (ownLines n c s lines phases) (ownSum phases lines)

@@ -18,7 +18,7 @@ use Rattle.own.specs.Own.{recordsRefusal, ownCorrections}
 use Rattle.refusals.specs.Outcome.{unlessRefused}
 use Rattle.refusals.proofs.Outcomes.{first-none}
 use Rattle.step_two.specs.StepTwo.{corrections}
-use Rattle.surfgimlet.specs.Calls.{forC, forS, placesC, placesS, fiveCorrected, stepTwo, ownLinesRefusal, ownLines}
+use Rattle.surfgimlet.specs.Calls.{forC, forS, placesC, placesS, fiveCorrected, stepTwoRefusal, stepTwo, ownLinesRefusal, ownLines}
 use Rattle.surfgimlet.proofs.Five.{c-run, s-run}
 use Rattle.demands.specs.Demands.{at, FiveEntries}
 
@@ -75,9 +75,10 @@ on-field n number c s d field passed =
     let a = accepted-field n c s field in
     entries number c s d passed (degree-two n c (a .least) (a .c-size)) (degree-two n s (a .least) (a .s-size))
 
-pub step-two : (n : ℕ) (c s : List ℤ) (phases : Phases) (love : LoveModel) → fieldRefusal n c s ≡ 0 → FiveEntries c s (stepTwo n c s phases love) (corrections phases love)
-unfolding stepTwo
-step-two n c s phases love passed = on-field n _ c s (corrections phases love) passed passed
+pub step-two : (n : ℕ) (c s : List ℤ) (phases : Phases) (love : LoveModel) (selection : ℕ) → stepTwoRefusal n c s selection ≡ 0
+    → FiveEntries c s (stepTwo n c s phases love selection) (corrections phases love selection)
+unfolding stepTwo stepTwoRefusal
+step-two n c s phases love selection passed = on-field n _ c s (corrections phases love selection) (first-none _ _ passed .0) passed
 
 -- of an accepted call the list is accepted
 pub own-passed : (n : ℕ) (c s : List ℤ) (lines : List OwnLine) → ownLinesRefusal n c s lines ≡ 0 → recordsRefusal lines ≡ 0

@@ -14,15 +14,18 @@ use Rattle.doodson.specs.declared.Read.the-variants as read
 use Rattle.doodson.specs.declared.Written.{Written}
 use Rattle.doodson.specs.declared.Written.the-variants as written
 use Rattle.doodson.specs.Doodson.{tellsRead, tellsWritten}
-use Rattle.refusals.specs.Outcome.{Outcome, Gives}
+use Rattle.refusals.specs.Outcome.{Outcome, Gives, GivesValue}
 use Rattle.lines.specs.declared.Sought.{Sought}
 use Rattle.lines.specs.declared.Sought.the-variants as sought
 use Rattle.lines.specs.Lines.{Found, tells as tellsSought}
 use Rattle.permanent.specs.declared.Moved.{Moved}
 use Rattle.permanent.specs.declared.Moved.the-variants as moved
 use Rattle.permanent.specs.Systems.{tells as tellsMoved}
+use Rattle.selection.specs.declared.Counted.{Counted}
+use Rattle.selection.specs.declared.Counted.the-variants as counted
+use Rattle.selection.specs.Selection.{tells as tellsCounted}
 
--- ---- step one, step two and the ocean tide: the answer and both lists
+-- ---- step one, own lines and the ocean tide: the answer and both lists
 pub one-outcome : (o : Outcome) (a b : Answer) (c c′ s s′ : List ℤ) → Gives o (answerNumber a) c s → Gives o (answerNumber b) c′ s′ → (a ≡ b) × (c ≡ c′) × (s ≡ s′)
 one-outcome o a b c c′ s s′ g h =
     (same-answer a b (g .answer ∙ sym (h .answer)), g .list-c ∙ sym (h .list-c), g .list-s ∙ sym (h .list-s))
@@ -78,3 +81,17 @@ sought-again (sought.Refused r) = ap sought.Refused (refusal-again r)
 
 pub one-sought : (r q : Sought) → tellsSought r ≡ tellsSought q → r ≡ q
 one-sought = known tellsSought sought-of sought-again
+
+-- ---- step two: the answer with its count, and both lists
+counted-of : Told ℕ → Counted
+counted-of (accepted lines) = counted.Lines lines
+counted-of (refused number) = counted.Refused (refusal-of number)
+
+counted-again : (r : Counted) → counted-of (tellsCounted r) ≡ r
+unfolding counted-of
+counted-again (counted.Lines lines) = refl
+counted-again (counted.Refused r) = ap counted.Refused (refusal-again r)
+
+pub one-counted : (o : Outcome) (lines : ℕ) (a b : Counted) (c c′ s s′ : List ℤ) → GivesValue o lines (tellsCounted a) c s → GivesValue o lines (tellsCounted b) c′ s′ → (a ≡ b) × (c ≡ c′) × (s ≡ s′)
+one-counted o lines a b c c′ s s′ g h =
+    (known tellsCounted counted-of counted-again a b (g .answer ∙ sym (h .answer)), g .list-c ∙ sym (h .list-c), g .list-s ∙ sym (h .list-s))

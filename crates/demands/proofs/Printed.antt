@@ -14,8 +14,11 @@ use Rattle.lines.specs.Lines.{Printed, diurnal, longPeriod, semidiurnal, printe
 use Rattle.own.specs.declared.OwnLine.{OwnLine}
 use Rattle.own.specs.Own.{multipliersOf, bandOf, lineOf, inRange, recordAt, recordsRefusal, ownPhase, ownSum, ownCorrections}
 use Rattle.refusals.proofs.Outcomes.{first-alone}
-use Rattle.step_two.specs.StepTwo.{printedSum, corrections}
-use Rattle.surfgimlet.specs.Calls.{stepTwo, ownLinesRefusal, ownLines}
+use Rattle.selection.specs.Selection.{allLines}
+use Rattle.selection.proofs.Named.{profiles}
+use Rattle.step_two.specs.StepTwo.{selectedSum, corrections}
+use Rattle.step_two.proofs.Unused.{all-lines-sum}
+use Rattle.surfgimlet.specs.Calls.{stepTwoRefusal, stepTwo, ownLinesRefusal, ownLines}
 use Rattle.wave.specs.Wave.{sin, cos}
 use Rattle.whole.proofs.Sums.{sum-same}
 use Rattle.whole.specs.Sum.{allTo}
@@ -55,14 +58,15 @@ same-multipliers : (i : ℕ) → i < 49 → multipliersOf (recordAt printedAsOwn
 unfolding listed printedAsOwn multipliersIn multipliersOf multipliersAt lineAt printed diurnal longPeriod semidiurnal
 same-multipliers = agree (λ i. multipliersOf (recordAt printedAsOwn i)) multipliersAt 49 refl
 
-same-sum : (phases : Phases) (k : Coefficient) → ownSum sin cos phases printedAsOwn k ≡ printedSum sin cos phases Anelastic k
+same-sum : (phases : Phases) (k : Coefficient) → ownSum sin cos phases printedAsOwn k ≡ selectedSum sin cos phases Anelastic allLines k
 unfolding sumOf printedAsOwn diurnal longPeriod semidiurnal
 same-sum phases k =
     sum-same (λ i. term k (lineOf (recordAt printedAsOwn i)) (cos (ownPhase phases printedAsOwn i)) (sin (ownPhase phases printedAsOwn i)))
     (λ i. term k (printedLine Anelastic i) (cos (linePhase phases i)) (sin (linePhase phases i))) 49
     (λ i h. rw (same-line i h, same-multipliers i h) refl)
+    ∙ sym (all-lines-sum sin cos phases Anelastic k)
 
-same-corrections : (phases : Phases) → ownCorrections phases printedAsOwn ≡ corrections phases Anelastic
+same-corrections : (phases : Phases) → ownCorrections phases printedAsOwn ≡ corrections phases Anelastic allLines
 unfolding ownCorrections corrections correctionsOf
 same-corrections phases = rw (same-sum phases C20, same-sum phases C21, same-sum phases S21, same-sum phases C22, same-sum phases S22) refl
 
@@ -72,6 +76,6 @@ unfolding recordsRefusal allTo inRange printedAsOwn multipliersIn diurnal longPe
 taken = refl
 
 -- any field, any phases: the same number and the same lists afterwards
-pub one-rule : (n : ℕ) (c s : List ℤ) (phases : Phases) → ownLines n c s printedAsOwn phases ≡ stepTwo n c s phases Anelastic
-unfolding ownLines ownLinesRefusal stepTwo
-one-rule n c s phases = rw (taken, first-alone (fieldRefusal n c s), same-corrections phases) refl
+pub one-rule : (n : ℕ) (c s : List ℤ) (phases : Phases) → ownLines n c s printedAsOwn phases ≡ stepTwo n c s phases Anelastic allLines
+unfolding ownLines ownLinesRefusal stepTwo stepTwoRefusal
+one-rule n c s phases = rw (taken, profiles .all-accepted, first-alone (fieldRefusal n c s), same-corrections phases) refl

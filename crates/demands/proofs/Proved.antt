@@ -25,7 +25,7 @@ pub first : First
 unfolding stepOne fiveCorrected stepTwo ownLines oceanTide
 first = record {
   step-one = λ n c s moon sun love. refuses _ c s _ _;
-  step-two = λ n c s phases love. refuses _ c s _ _;
+  step-two = λ n c s phases love selection. refuses _ c s _ _;
   own-lines = λ n c s lines phases. refuses _ c s _ _;
   ocean-tide = λ n c s sheet phases frame. refuses _ c s _ _;
 }

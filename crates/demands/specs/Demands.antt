@@ -29,7 +29,7 @@ use Rattle.sheet.specs.Sheet.{placeCount, cCos, sCos, cSin, sSin}
 use Rattle.step_one.specs.StepOne.{Counts, places, corrections as bodyCorrections}
 use Rattle.step_two.specs.StepTwo.{corrections as lineCorrections}
 use Rattle.step_two_bound.specs.Exact.{lessThanOneCount, exactSum as lineSum}
-use Rattle.surfgimlet.specs.Calls.{stepOneRefusal, stepOne, stepTwo, ownLinesRefusal, ownLines, oceanRefusal, oceanTide}
+use Rattle.surfgimlet.specs.Calls.{stepOneRefusal, stepOne, stepTwoRefusal, stepTwo, ownLinesRefusal, ownLines, oceanRefusal, oceanTide}
 
 -- the entry at k
 abbrev pub at : List ℤ → ℕ → ℤ
@@ -47,7 +47,7 @@ pub record Refuses (o : Outcome) (number : ℕ) (c s : List ℤ) : Type 0 where
 
 pub record First : Type 0 where
   pub step-one : (n : ℕ) (c s : List ℤ) (moon sun : Body) (love : LoveModel) → Refuses (stepOne n c s moon sun love) (stepOneRefusal n c s moon sun love) c s
-  pub step-two : (n : ℕ) (c s : List ℤ) (phases : Phases) (love : LoveModel) → Refuses (stepTwo n c s phases love) (fieldRefusal n c s) c s
+  pub step-two : (n : ℕ) (c s : List ℤ) (phases : Phases) (love : LoveModel) (selection : ℕ) → Refuses (stepTwo n c s phases love selection) (stepTwoRefusal n c s selection) c s
   pub own-lines : (n : ℕ) (c s : List ℤ) (lines : List OwnLine) (phases : Phases) → Refuses (ownLines n c s lines phases) (ownLinesRefusal n c s lines) c s
   pub ocean-tide : (n : ℕ) (c s : List ℤ) (sheet : List ℕ) (phases : Phases) (frame : Frame) → Refuses (oceanTide n c s sheet phases frame) (oceanRefusal n c s sheet) c s
 
@@ -80,8 +80,8 @@ pub record OceanEntries (n : ℕ) (c s : List ℤ) (sheet : List ℕ) (phases : 
 
 pub record Second : Type 0 where
   pub step-one : (n : ℕ) (c s : List ℤ) (moon sun : Body) (love : LoveModel) → StepOneEntries n c s moon sun love
-  pub step-two : (n : ℕ) (c s : List ℤ) (phases : Phases) (love : LoveModel) → fieldRefusal n c s ≡ 0
-      → FiveEntries c s (stepTwo n c s phases love) (lineCorrections phases love)
+  pub step-two : (n : ℕ) (c s : List ℤ) (phases : Phases) (love : LoveModel) (selection : ℕ) → stepTwoRefusal n c s selection ≡ 0
+      → FiveEntries c s (stepTwo n c s phases love selection) (lineCorrections phases love selection)
   pub own-lines : (n : ℕ) (c s : List ℤ) (lines : List OwnLine) (phases : Phases) → ownLinesRefusal n c s lines ≡ 0
       → FiveEntries c s (ownLines n c s lines phases) (ownCorrections phases lines)
   pub ocean-tide : (n : ℕ) (c s : List ℤ) (sheet : List ℕ) (phases : Phases) (frame : Frame) → oceanRefusal n c s sheet ≡ 0 → OceanEntries n c s sheet phases frame
@@ -105,8 +105,9 @@ pub record OceanClose (n : ℕ) (c s : List ℤ) (sheet : List ℕ) (phases : Ph
   pub in-s : (j : ℕ) → j < placeCount sheet → atMostNineCounts (gained s (oceanTide n c s sheet phases frame .s) (indexOf sheet j)) (oceanSum sheet phases frame sCos sSin j)
 
 pub record Third : Type 0 where
-  pub step-two : (n : ℕ) (c s : List ℤ) (phases : Phases) (love : LoveModel) → fieldRefusal n c s ≡ 0
-      → FiveClose lessThanOneCount c s (stepTwo n c s phases love) (lineSum phases love)
+  -- T-04: "The less-than-one-count bound is to hold for every selection", from the exact sum of the lines named
+  pub step-two : (n : ℕ) (c s : List ℤ) (phases : Phases) (love : LoveModel) (selection : ℕ) → stepTwoRefusal n c s selection ≡ 0
+      → FiveClose lessThanOneCount c s (stepTwo n c s phases love selection) (lineSum phases love selection)
   -- T-01: "Each resulting correction must lie within three counts of its exact sum"
   pub own-lines : (n : ℕ) (c s : List ℤ) (lines : List OwnLine) (phases : Phases) → ownLinesRefusal n c s lines ≡ 0
       → FiveClose withinThreeCounts c s (ownLines n c s lines phases) (ownSum phases lines)

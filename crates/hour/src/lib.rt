@@ -1,6 +1,7 @@
 // The waves of the printed lines at six phases, worked out once.
 ghost use mathlib.Core.Path.{_≡_};
 ghost use mathlib.Core.Bool.{cond};
+ghost use Prim.Native.Nat.{_<_};
 ghost use lib.IntN.{pos};
 ghost use lib.ListN.{length};
 ghost use Rattle.arguments.specs.Phase.{phase};
@@ -11,13 +12,15 @@ use arguments::Phases;
 use choices::LoveModel;
 use wave::Wave;
 
-// Whether a Love model has amplitudes for a line.
-fn is_used(love: LoveModel, i: usize) -> bool
-    ensures { λ r. ⌜ r ≡ isUsed love i ⌝ }
+// Whether a Love model has amplitudes for a line, and a selection names it.
+fn is_used(love: LoveModel, selection: u64, i: usize) -> bool
+    requires { ⌜ i < 49 ⌝ }
+    ensures { λ r. ⌜ r ≡ isUsed love selection i ⌝ }
 {
+    let named = selection::names(selection, i);
     match love {
-        LoveModel::Elastic => (i < 26) | (47 <= i),
-        LoveModel::Anelastic => true,
+        LoveModel::Elastic => ((i < 26) | (47 <= i)) & named,
+        LoveModel::Anelastic => named,
     }
 }
 
@@ -32,16 +35,22 @@ fn wave_by(digits: u32, phases: Phases, used: bool) -> Wave
     }
 }
 
-// The cosines and the sines of the printed lines, in units of 2^-30; zeros for a line that the Love model has no amplitudes for.
-pub fn fill_waves(phases: Phases, love: LoveModel, cosines: &mut [i32; 49], sines: &mut [i32; 49])
+// The cosines and the sines of the printed lines, in units of 2^-30; zeros for a line that is not named or that the Love model has no amplitudes for.
+pub fn fill_waves(
+    phases: Phases,
+    love: LoveModel,
+    selection: u64,
+    cosines: &mut [i32; 49],
+    sines: &mut [i32; 49],
+)
     requires { ⌜ (length (now cosines) ≡ 49) × (length (now sines) ≡ 49) ⌝ }
-    ensures { λ _. ⌜ Waved phases love (now (cosines .exit)) (now (sines .exit)) ⌝ }
+    ensures { λ _. ⌜ Waved phases love selection (now (cosines .exit)) (now (sines .exit)) ⌝ }
 {
     let tables = lines::printed_tables();
     let digits = tables.digits;
     let mut i = 0;
     while i < 49 {
-        let wave = wave_by(digits[i], phases, is_used(love, i));
+        let wave = wave_by(digits[i], phases, is_used(love, selection, i));
         cosines[i] = wave.cosine as i32;
         sines[i] = wave.sine as i32;
         i += 1;

@@ -1,7 +1,7 @@
 -- The bounds of documents 01 and 02, each as the test of a number. A direction's tolerance and a digit's range stand with their rules.
 use mathlib.Core.Bool.{Bool, _&&_}
 use Prim.Native.Nat.{ℕ, _^_}
-use lib.Dec.{leb}
+use lib.Dec.{leb, ltb}
 use lib.Ieee.{Float, le, lt}
 use lib.IntN.{ℤ, pos, natAbs}
 use lib.Signed.{leZ}
@@ -74,3 +74,8 @@ isFirstMultiplier k = leZ (pos 0) k && leZ k (pos 2)
 -- "Any absolute amplitude is at most 100,000"
 abbrev pub isAmplitude : ℤ → Bool
 isAmplitude a = leb (natAbs a) 100000
+
+-- ---- T-04, "Choosing which lines are used"
+-- 14: "for a bit above 48", so bits 0 to 48
+abbrev pub isSelection : ℕ → Bool
+isSelection selection = ltb selection (2 ^ 49)

@@ -1,6 +1,6 @@
 // The bounds of documents 01 and 02, each named once: a test of a number. A direction's tolerance and a digit's range stand with their rules.
 ghost use mathlib.Core.Path.{_≡_};
-ghost use Rattle.limits.specs.Limits.{isDegree, isEntry, isDistance, isRatio, isCountable, isDoodson, isLineCount, isTideCount, isPlaceCount, isMultiplier, isRowTotal, isSheetDegree, isCoefficient, isRecordCount, isFirstMultiplier, isAmplitude};
+ghost use Rattle.limits.specs.Limits.{isDegree, isEntry, isDistance, isRatio, isCountable, isDoodson, isLineCount, isTideCount, isPlaceCount, isMultiplier, isRowTotal, isSheetDegree, isCoefficient, isRecordCount, isFirstMultiplier, isAmplitude, isSelection};
 
 const LEAST_DEGREE: u32 = 4;
 
@@ -45,6 +45,9 @@ const LARGEST_FIRST_MULTIPLIER: i32 = 2;
 
 // In tenths of 10^-12.
 const LARGEST_AMPLITUDE: i64 = 100000;
+
+// The first bit of a selection that stands for no line.
+const BIT_49: u64 = 0x2000000000000;
 
 pub fn is_degree(n: u32) -> bool
     ensures { λ r. ⌜ r ≡ isDegree n ⌝ }
@@ -142,4 +145,10 @@ pub fn is_amplitude(a: i64) -> bool
     ensures { λ r. ⌜ r ≡ isAmplitude a ⌝ }
 {
     (-LARGEST_AMPLITUDE <= a) & (a <= LARGEST_AMPLITUDE)
+}
+
+pub fn is_selection(selection: u64) -> bool
+    ensures { λ r. ⌜ r ≡ isSelection selection ⌝ }
+{
+    selection < BIT_49
 }

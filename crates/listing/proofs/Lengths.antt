@@ -13,6 +13,7 @@ use Rattle.arguments.specs.declared.Phases.{Phases}
 use Rattle.bands.specs.declared.Corrections.{Corrections}
 use Rattle.bands.specs.Inner.{Small}
 use Rattle.choices.specs.declared.LoveModel.the-variants.{Elastic, Anelastic}
+use Rattle.selection.specs.Selection.{allLines}
 use Rattle.step_two.proofs.Sizes.{corrections-small}
 use Rattle.text.specs.Inner.{Put}
 use Rattle.text.specs.Text.{ascii}
@@ -28,7 +29,7 @@ model-most model {d} s =
 models-most : (phases : Phases) → length (modelsText phases) ≤ 256
 unfolding ascii modelsText
 models-most phases =
-    simp length-append (omega (arith, model-most (ascii "elastic") (corrections-small phases Elastic), model-most (ascii "anelastic") (corrections-small phases Anelastic)))
+    simp length-append (omega (arith, model-most (ascii "elastic") (corrections-small phases Elastic allLines), model-most (ascii "anelastic") (corrections-small phases Anelastic allLines)))
 
 listing-most : (input : List ℕ) → length (listingOf input) ≤ 256
 unfolding ascii listingOf

@@ -9,6 +9,7 @@ use lib.ListN.{length, drop}
 use Rattle.arguments.specs.declared.Phases.{Phases}
 use Rattle.bands.specs.declared.Corrections.{Corrections}
 use Rattle.choices.specs.declared.LoveModel.the-variants.{Elastic, Anelastic}
+use Rattle.selection.specs.Selection.{allLines}
 use Rattle.step_two.specs.StepTwo.{corrections}
 use Rattle.text.specs.Text.{ascii, number}
 use Rattle.words.specs.Words.{wordAt}
@@ -33,12 +34,12 @@ columns (count ∷ counts) = ascii " " ++ number count ++ columns counts
 unfoldable pub modelText : List ℕ → Corrections → List ℕ
 modelText model d = model ++ columns (d .c20 ∷ d .c21 ∷ d .s21 ∷ d .c22 ∷ d .s22 ∷ []) ++ ascii "\n"
 
--- "Zeros give the following whole output": a heading, and the text of each Love model
+-- "Zeros give the following whole output": a heading, and the text of each Love model; "`steptwo` keeps using all lines" (document 02, T-04)
 unfoldable pub modelsText : Phases → List ℕ
 modelsText phases =
     ascii "model C20 C21 S21 C22 S22\n"
-    ++ modelText (ascii "elastic") (corrections phases Elastic)
-    ++ modelText (ascii "anelastic") (corrections phases Anelastic)
+    ++ modelText (ascii "elastic") (corrections phases Elastic allLines)
+    ++ modelText (ascii "anelastic") (corrections phases Anelastic allLines)
 
 -- what the program writes on an input; "Any other input length prints the single line `refused`."
 unfoldable pub listingOf : List ℕ → List ℕ

@@ -33,23 +33,24 @@ fn put_model(out: &mut [u8], at: usize, model: &[u8], d: Corrections) -> usize
     text::put_byte(out, after_counts, b'\n')
 }
 
-// Puts the heading, and what each Love model has at six phases.
+// Puts the heading, and what all lines give each Love model at six phases.
 fn put_models(out: &mut [u8], phases: Phases) -> usize
     requires { ⌜ 256 ≤ length (now out) ⌝ }
     ensures { λ r. ⌜ Put (now (out .entry)) 0 (modelsText phases) (now (out .exit)) r ⌝ }
 {
+    let lines = selection::all_lines();
     let at = text::put_word(out, 0, b"model C20 C21 S21 C22 S22\n");
     let at = put_model(
         out,
         at,
         b"elastic",
-        step_two::corrections_of(phases, LoveModel::Elastic),
+        step_two::corrections_of(phases, LoveModel::Elastic, lines),
     );
     put_model(
         out,
         at,
         b"anelastic",
-        step_two::corrections_of(phases, LoveModel::Anelastic),
+        step_two::corrections_of(phases, LoveModel::Anelastic, lines),
     )
 }
 

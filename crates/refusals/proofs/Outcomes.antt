@@ -1,5 +1,5 @@
 -- An outcome by its number, and the first of two refusals.
-use mathlib.Core.Path.{_≡_, refl, sym, subst, _∙_}
+use mathlib.Core.Path.{_≡_, refl, sym, ap, subst, _∙_}
 use mathlib.Core.Bool.{Bool, true, false, cond}
 use mathlib.Core.List.{List}
 use mathlib.Core.Logic.{_↔_}
@@ -8,7 +8,9 @@ use native.Mathlib.Omega.{arith}
 use borrow.Author.Tests.{eqb-true, ne-eqb}
 use lib.Dec.{T, eqb}
 use lib.IntN.{ℤ}
-use Rattle.refusals.specs.Outcome.{firstOf, unlessRefused, Outcome, Gives}
+use Rattle.refusals.specs.Outcome.{firstOf, unlessRefused, toldUnless, Outcome, Gives, GivesValue}
+use Rattle.refusals.specs.Told.{Told}
+use Rattle.refusals.specs.Told.Told.{accepted, refused}
 
 -- an outcome, where the answer's number is 0 and where it is another
 module _ (number : ℕ) (c s c′ s′ : List ℤ) where
@@ -31,6 +33,19 @@ module _ (number : ℕ) (c s c′ s′ : List ℤ) where
 
   pub refused-untouched : (number ≡ 0 → ⊥) → (unlessRefused number c s c′ s′ .c ≡ c) × (unlessRefused number c s c′ s′ .s ≡ s)
   refused-untouched n = let g = gives-kept n in (sym (g .list-c), sym (g .list-s))
+
+-- a value told, where nothing refuses the call and where a number does
+module _ {A : Type 0} (value : A) where
+  pub told-value : (number : ℕ) → number ≡ 0 → accepted value ≡ toldUnless number value
+  unfolding toldUnless
+  told-value number e = rw e refl
+
+  pub told-refused : (number : ℕ) → (number ≡ 0 → ⊥) → refused number ≡ toldUnless number value
+  unfolding toldUnless
+  told-refused number n = rw (ne-eqb number 0 n) refl
+
+  pub with-value : {o : Outcome} {k : ℕ} {c s : List ℤ} {told : Told A} → Gives o k c s → told ≡ toldUnless k value → GivesValue o value told c s
+  with-value g e = record { answer = e ∙ ap (λ (k : ℕ). toldUnless k value) (g .answer); list-c = g .list-c; list-s = g .list-s }
 
 -- ---- the first of two refusals
 pub first-kept : (a b : ℕ) → (a ≡ 0 → ⊥) → firstOf a b ≡ a

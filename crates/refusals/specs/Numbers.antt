@@ -1,7 +1,7 @@
--- Document 01, "Refusal numbers", and 12 and 13 of 02, T-01.
+-- Document 01, "Refusal numbers"; 12 and 13 of 02, T-01, and 14 of T-04.
 use Prim.Native.Nat.{ℕ}
 use Rattle.refusals.specs.declared.Refusal.{Refusal}
-use Rattle.refusals.specs.declared.Refusal.the-variants.{FieldShape, FieldRange, NotFinite, BodyRange, NotUnit, StepOneRange, SheetLength, SheetValue, SheetDegree, NotDoodson, NoSuchLine, RecordCount, RecordValue}
+use Rattle.refusals.specs.declared.Refusal.the-variants.{FieldShape, FieldRange, NotFinite, BodyRange, NotUnit, StepOneRange, SheetLength, SheetValue, SheetDegree, NotDoodson, NoSuchLine, RecordCount, RecordValue, SelectionValue}
 use Rattle.refusals.specs.declared.Answer.{Answer}
 use Rattle.refusals.specs.declared.Answer.the-variants.{Accepted, Refused}
 
@@ -19,6 +19,7 @@ refusalNumber NotDoodson = 10
 refusalNumber NoSuchLine = 11
 refusalNumber RecordCount = 12
 refusalNumber RecordValue = 13
+refusalNumber SelectionValue = 14
 
 -- 0 where a call is accepted
 abbrev pub answerNumber : Answer → ℕ

@@ -18,6 +18,7 @@ pub enum Refusal {
     NoSuchLine,
     RecordCount,
     RecordValue,
+    SelectionValue,
 }
 
 // The answer of a call whose results stand in lent memory.
@@ -44,6 +45,7 @@ pub fn refusal_number(why: Refusal) -> u32
         Refusal::NoSuchLine => 11,
         Refusal::RecordCount => 12,
         Refusal::RecordValue => 13,
+        Refusal::SelectionValue => 14,
     }
 }
 

@@ -1,4 +1,5 @@
 -- The printed lines are light, and the waves kept of them fit.
+use mathlib.Core.Bool.{Bool, true, false, cond}
 use mathlib.Core.Path.{_≡_, _∙_}
 use Prim.Native.Nat.{ℕ, _^_, _≤_, _<_}
 use native.Mathlib.Omega.{arith}
@@ -13,6 +14,7 @@ use Rattle.bands.proofs.Sizes.{corrections-small as lines-small}
 use Rattle.choices.specs.declared.LoveModel.{LoveModel}
 use Rattle.lines.specs.Lines.{linePhase, printedLine}
 use Rattle.lines.proofs.Table.{printed-small}
+use Rattle.selection.specs.Selection.{names, unnamed, selectedLine}
 use Rattle.wave.specs.Wave.{sin, cos}
 use Rattle.wave.proofs.Size.{sin-size, cos-size}
 use Rattle.whole.proofs.Machine.{back}
@@ -37,9 +39,18 @@ module _ (z : ℤ) (g : mag z < 2 ^ 31) where
   pub wave-read : toZ w64 (ofZ w64 (toZ w32 (ofZ w32 z))) ≡ z
   wave-read = toZ-ofZ wave-fits ∙ back w32 z g
 
+-- a line that is not named is no heavier than the printed one
+pub selected-light : (love : LoveModel) (selection i : ℕ) → Light 472000 (selectedLine love selection i)
+unfolding selectedLine
+selected-light love selection i = by (names selection i)
+  where
+    by : (b : Bool) → Light 472000 (cond b (printedLine love i) (unnamed (printedLine love i)))
+    by true = printed-light love i
+    by false = record { ip = omega arith; op = omega arith }
+
 -- a correction is far below an entry's range
-pub corrections-small : (phases : Phases) (love : LoveModel) → Small (corrections phases love)
+pub corrections-small : (phases : Phases) (love : LoveModel) (selection : ℕ) → Small (corrections phases love selection)
 unfolding corrections
-corrections-small phases love =
-    lines-small (printedLine love) (λ i. cos (linePhase phases i)) (λ i. sin (linePhase phases i)) 472000 49 (omega arith) (omega arith)
-    (λ i l. printed-light love i) (λ i. omega (arith, cos-size (linePhase phases i))) (λ i. omega (arith, sin-size (linePhase phases i)))
+corrections-small phases love selection =
+    lines-small (selectedLine love selection) (λ i. cos (linePhase phases i)) (λ i. sin (linePhase phases i)) 472000 49 (omega arith) (omega arith)
+    (λ i l. selected-light love selection i) (λ i. omega (arith, cos-size (linePhase phases i))) (λ i. omega (arith, sin-size (linePhase phases i)))

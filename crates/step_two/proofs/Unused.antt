@@ -1,61 +1,72 @@
--- A line that a Love model has no amplitudes for gives nothing, whatever its wave: so the waves kept of the lines used give the whole sums.
+-- A line that is not named, or that a Love model has no amplitudes for, gives nothing, whatever its wave: so the waves kept of the lines used give the
+-- sums of the lines named. And all lines selected give the sums of all lines.
 use borrow.Author.Tests.{leb-false, lt-ltb}
-use mathlib.Core.Bool.{Bool, true, false, cond, _||_}
-use mathlib.Core.List.{List, [], _∷_}
-use mathlib.Core.Path.{_≡_, refl, sym, _∙_}
-use Prim.Native.Nat.{ℕ}
+use mathlib.Core.Bool.{Bool, true, false, cond, _&&_, _||_}
+use mathlib.Core.List.{List}
+use mathlib.Core.Path.{_≡_, refl, sym, ap, subst, _∙_}
+use Prim.Native.Nat.{ℕ, _+_, _≤_}
 use native.Mathlib.Omega.{arith}
 use lib.Dec.{ltb, leb}
-use lib.IntN.{ℤ, pos, _+ℤ_, _*ℤ_}
+use lib.IntN.{ℤ, pos, negsuc, natAbs}
 use Rattle.arguments.specs.declared.Phases.{Phases}
-use Rattle.bands.specs.declared.Band.the-variants.{LongPeriod}
 use Rattle.bands.specs.declared.Line.{Line}
-use Rattle.bands.specs.Bands.{Coefficient, C20, C21, S21, C22, S22, ofBand, ofLongPeriod, term, sumOf}
+use Rattle.bands.specs.Bands.{Coefficient, term, sumOf}
+use Rattle.bands.proofs.Terms.{term-size}
 use Rattle.choices.specs.declared.LoveModel.{LoveModel}
 use Rattle.choices.specs.declared.LoveModel.the-variants.{Elastic, Anelastic}
-use Rattle.hour.specs.Inner.{isUsed, kept, Waved}
+use Rattle.hour.specs.Inner.{isInModel, isUsed, kept, Waved}
 use Rattle.lines.specs.Lines.{bandAt, inModel, linePhase, printedLine}
+use Rattle.selection.specs.Selection.{names, unnamed, selectedLine, allLines}
+use Rattle.selection.proofs.Named.{all-selected}
 use Rattle.wave.specs.Wave.{sin, cos}
-use Rattle.whole.proofs.Ring.{equal, !, #, _⊕_, _⊗_}
 use Rattle.whole.proofs.Sums.{sum-same}
+use Rattle.step_two.specs.StepTwo.{printedSum, selectedSum}
 
-abbrev silent : Line
-silent = record { band = LongPeriod; ip = pos 0; op = pos 0 }
+-- no amplitudes, or no wave: no term
+no-size : (z : ℤ) → natAbs z ≤ 0 → z ≡ pos 0
+no-size (pos n) h = let e : n ≡ 0 = omega arith in ap pos e
+no-size (negsuc n) h = absurd (omega arith)
 
-nought : (c s : ℤ) → pos 0 *ℤ c +ℤ pos 0 *ℤ s ≡ pos 0
-nought c s = equal (# (pos 0) ⊗ ! 0 ⊕ # (pos 0) ⊗ ! 1) (# (pos 0)) (c ∷ s ∷ []) (omega arith)
+no-amplitudes : (k : Coefficient) (line : Line) (c s : ℤ) → term k (unnamed line) c s ≡ pos 0
+no-amplitudes k line c s = no-size (term k (unnamed line) c s) (omega (arith, term-size k (unnamed line) c s (natAbs c + natAbs s) (omega arith) (omega arith)))
 
-silent-term : (k : Coefficient) (c s : ℤ) → term k silent c s ≡ pos 0
-unfolding term ofBand ofLongPeriod
-silent-term C20 c s = nought c s
-silent-term C21 c s = nought c s
-silent-term S21 c s = nought c s
-silent-term C22 c s = nought c s
-silent-term S22 c s = nought c s
+no-wave : (k : Coefficient) (line : Line) → term k line (pos 0) (pos 0) ≡ pos 0
+no-wave k line = no-size (term k line (pos 0) (pos 0)) (omega (arith, term-size k line (pos 0) (pos 0) 0 (omega arith) (omega arith)))
 
 neither : (a b : Bool) → (a || b) ≡ false → (a ≡ false) × (b ≡ false)
 neither true b e = let z : _≡_ {A = ℕ} 0 1 = cc in absurd (omega arith)
 neither false b e = (refl, e)
 
-unused-silent : (love : LoveModel) (i : ℕ) → isUsed love i ≡ false → printedLine love i ≡ silent
-unfolding isUsed printedLine inModel bandAt
-unused-silent Elastic i e =
+not-in-model : (love : LoveModel) (i : ℕ) → isInModel love i ≡ false → unnamed (printedLine love i) ≡ printedLine love i
+unfolding isInModel printedLine inModel bandAt
+not-in-model Elastic i e =
     let t = neither (ltb i 26) (leb 47 i) e in
     rw (t .0, lt-ltb i 47 (omega (arith, leb-false 47 i (t .1)))) refl
-unused-silent Anelastic i e = let z : _≡_ {A = ℕ} 0 1 = cc in absurd (omega arith)
+not-in-model Anelastic i e = let z : _≡_ {A = ℕ} 0 1 = cc in absurd (omega arith)
 
--- a line's term takes its kept waves or its own
+-- a line's term takes its kept waves, or its own where it is named
 module _ (love : LoveModel) (i : ℕ) (k : Coefficient) (c s : ℤ) where
-  by-use : (b : Bool) → isUsed love i ≡ b → term k (printedLine love i) (cond b c (pos 0)) (cond b s (pos 0)) ≡ term k (printedLine love i) c s
-  by-use true e = refl
-  by-use false e = rw (unused-silent love i e) (silent-term k (pos 0) (pos 0) ∙ sym (silent-term k c s))
+  by-use : (m b : Bool) → isInModel love i ≡ m
+      → term k (printedLine love i) (cond (m && b) c (pos 0)) (cond (m && b) s (pos 0)) ≡ term k (cond b (printedLine love i) (unnamed (printedLine love i))) c s
+  by-use true true e = refl
+  by-use true false e = no-wave k (printedLine love i) ∙ sym (no-amplitudes k (printedLine love i) c s)
+  by-use false true e = no-wave k (printedLine love i) ∙ sym (subst (λ (l : Line). term k l c s ≡ pos 0) (not-in-model love i e) (no-amplitudes k (printedLine love i) c s))
+  by-use false false e = no-wave k (printedLine love i) ∙ sym (no-amplitudes k (printedLine love i) c s)
 
-  same-term : term k (printedLine love i) (cond (isUsed love i) c (pos 0)) (cond (isUsed love i) s (pos 0)) ≡ term k (printedLine love i) c s
-  same-term = by-use (isUsed love i) refl
+  same-term : (selection : ℕ) → term k (printedLine love i) (cond (isUsed love selection i) c (pos 0)) (cond (isUsed love selection i) s (pos 0)) ≡ term k (selectedLine love selection i) c s
+  unfolding isUsed selectedLine
+  same-term selection = by-use (isInModel love i) (names selection i) refl
 
-pub waved-sum : (phases : Phases) (love : LoveModel) (C S : List ℤ) → Waved phases love C S → (k : Coefficient)
-    → sumOf (printedLine love) (kept C) (kept S) 49 k ≡ sumOf (printedLine love) (λ i. cos (linePhase phases i)) (λ i. sin (linePhase phases i)) 49 k
+pub waved-sum : (phases : Phases) (love : LoveModel) (selection : ℕ) (C S : List ℤ) → Waved phases love selection C S → (k : Coefficient)
+    → sumOf (printedLine love) (kept C) (kept S) 49 k ≡ selectedSum sin cos phases love selection k
 unfolding sumOf
-waved-sum phases love C S W k =
-    sum-same (λ i. term k (printedLine love i) (kept C i) (kept S i)) (λ i. term k (printedLine love i) (cos (linePhase phases i)) (sin (linePhase phases i))) 49
-    (λ i l. rw (W .cosines i l, W .sines i l) (same-term love i k (cos (linePhase phases i)) (sin (linePhase phases i))))
+waved-sum phases love selection C S W k =
+    sum-same (λ i. term k (printedLine love i) (kept C i) (kept S i)) (λ i. term k (selectedLine love selection i) (cos (linePhase phases i)) (sin (linePhase phases i))) 49
+    (λ i l. rw (W .cosines i l, W .sines i l) (same-term love i k (cos (linePhase phases i)) (sin (linePhase phases i)) selection))
+
+-- all lines selected: the sums without a selection
+pub all-lines-sum : (S C : ℕ → ℤ) (phases : Phases) (love : LoveModel) (k : Coefficient) → selectedSum S C phases love allLines k ≡ printedSum S C phases love k
+unfolding sumOf
+all-lines-sum S C phases love k =
+    sum-same (λ i. term k (selectedLine love allLines i) (C (linePhase phases i)) (S (linePhase phases i))) (λ i. term k (printedLine love i) (C (linePhase phases i)) (S (linePhase phases i))) 49
+    (λ i l. rw (all-selected love i l) refl)

@@ -1,4 +1,5 @@
-// Step two of the solid tide (001, Tables 6.2; document 01, "Step two"): what the printed lines add to degree two.
+// Step two of the solid tide (001, Tables 6.2; document 01, "Step two"; document 02, T-04): what the printed lines that a selection names add to
+// degree two.
 ghost use mathlib.Core.Path.{_≡_};
 ghost use Rattle.bands.specs.Bands.{sumOf};
 ghost use Rattle.bands.specs.Inner.{sumsOf, Bounded};
@@ -33,13 +34,13 @@ pub fn sums_of(love: LoveModel, cosines: &[i32; 49], sines: &[i32; 49]) -> Sums
     sums
 }
 
-// Given: six phases and the Love model.
-// Answered: the corrections of C20, C21, S21, C22 and S22, each the nearest of one whole sum.
-pub fn corrections_of(phases: Phases, love: LoveModel) -> Corrections
-    ensures { λ r. ⌜ r ≡ corrections phases love ⌝ }
+// Given: six phases, the Love model and a selection, whose bits above 48 stand for nothing.
+// Answered: the corrections of C20, C21, S21, C22 and S22, each the nearest of one whole sum. A line that is not named has no wave, so it adds nothing.
+pub fn corrections_of(phases: Phases, love: LoveModel, selection: u64) -> Corrections
+    ensures { λ r. ⌜ r ≡ corrections phases love selection ⌝ }
 {
     let mut cosines = [0i32; 49];
     let mut sines = [0i32; 49];
-    hour::fill_waves(phases, love, &mut cosines, &mut sines);
+    hour::fill_waves(phases, love, selection, &mut cosines, &mut sines);
     bands::rounded_of(sums_of(love, &cosines, &sines))
 }

@@ -1,5 +1,5 @@
--- A sum is off by at most two units for each count of the lines' amplitudes, and its nearest by half a count more: for any lines. The printed ones
--- are a few counts in two to the thirtieth.
+-- A sum is off by at most two units for each count of the lines' amplitudes, and its nearest by half a count more: for any lines. Of lines no larger
+-- than the printed ones that is less than one count, and so of the printed ones that a selection names.
 use mathlib.Core.Path.{ap}
 use mathlib.Core.List.{[], _∷_}
 use Prim.Native.Nat.{ℕ, zero, suc, _+_, _*_, _^_, _≤_, _<_}
@@ -9,20 +9,22 @@ use lib.Dec.{lit<}
 use lib.IntN.{ℤ, pos, natAbs, _+ℤ_, _*ℤ_}
 use Rattle.arguments.specs.declared.Phases.{Phases}
 use Rattle.bands.specs.declared.Line.{Line}
+use Rattle.bands.specs.Inner.{Light}
 use Rattle.bands.specs.Bands.{Coefficient, C20, C21, S21, C22, S22, taken, term, sumOf, correctionOf, correctionsOf}
 use Rattle.bands.proofs.Terms.{taken-size}
 use Rattle.choices.specs.declared.LoveModel.{LoveModel}
-use Rattle.lines.specs.Lines.{linePhase, printedLine}
-use Rattle.lines.proofs.Table.{printed-small}
-use Rattle.series.specs.Exact.{bottom, factorial, denominator, scale}
+use Rattle.lines.specs.Lines.{linePhase}
+use Rattle.selection.specs.Selection.{selectedLine}
+use Rattle.series.specs.Exact.{bottom, factorial, denominator, scale, exact-sin, exact-cos}
 use Rattle.series.proofs.Sums.{waves-near}
 use Rattle.wave.specs.Wave.{sin, cos}
 use Rattle.whole.specs.Sum.{weightTo}
 use Rattle.whole.proofs.Ring.{equal, !, #, _⊕_, _⊖_, _⊗_}
 use Rattle.whole.proofs.Running.{weight-size}
 use Rattle.whole.proofs.Within.{within-nearest}
-use Rattle.step_two.specs.StepTwo.{printedSum, corrections}
-use Rattle.step_two_bound.specs.Exact.{partsOfACount, lessThanOneCount, amplitudes, byAmplitudes, LinesCloseToExact, exactSum, CloseToExact}
+use Rattle.step_two.specs.StepTwo.{corrections}
+use Rattle.step_two.proofs.Sizes.{selected-light}
+use Rattle.step_two_bound.specs.Exact.{partsOfACount, lessThanOneCount, amplitudes, byAmplitudes, LinesCloseToExact, CloseToExact}
 
 -- what a coefficient takes of the lines is no more than they have
 taken-weight : (lines : ℕ → Line) (k : Coefficient) (n : ℕ)
@@ -61,27 +63,22 @@ one-count-off d h =
     let e = equal ((! 0 ⊕ # (pos 1)) ⊗ ! 1 ⊖ ! 0 ⊗ ! 1) (! 1) (d ∷ pos partsOfACount ∷ []) (omega arith) in
     omega (arith, h, ap natAbs e)
 
-printed-weight : (love : LoveModel) → amplitudes (printedLine love) 49 ≤ 2 ^ 27
+-- any 49 lines whose amplitudes are at most the largest of the table, whichever they are
+pub as-printed-close : (lines : ℕ → Line) → ((i : ℕ) → i < 49 → Light 472000 (lines i)) → (phase : ℕ → ℕ) (k : Coefficient)
+    → lessThanOneCount (correctionOf (sumOf lines (λ i. cos (phase i)) (λ i. sin (phase i)) 49 k)) (sumOf lines (λ i. exact-cos (phase i)) (λ i. exact-sin (phase i)) 49 k)
 unfolding amplitudes
-printed-weight love =
-    omega (
+as-printed-close lines light phase k =
+    close (amplitudes lines 49) _ _
+    (omega (
       arith,
-      weight-size (λ i. printedLine love i .ip) 472000 49 (λ i l. printed-small love i .0),
-      weight-size (λ i. printedLine love i .op) 472000 49 (λ i l. printed-small love i .1),
-    )
+      weight-size (λ i. lines i .ip) 472000 49 (λ i l. light i l .ip),
+      weight-size (λ i. lines i .op) 472000 49 (λ i l. light i l .op),
+    ))
+    (lines-close lines phase 49 .each k)
 
-printed-close : (phases : Phases) (love : LoveModel) (k : Coefficient) → lessThanOneCount (correctionOf (printedSum sin cos phases love k)) (exactSum phases love k)
-printed-close phases love k =
-    close (amplitudes (printedLine love) 49) _ (exactSum phases love k) (printed-weight love)
-    (lines-close (printedLine love) (linePhase phases) 49 .each k)
-
--- for all six phases and both models
-pub step-two-close : (phases : Phases) (love : LoveModel) → CloseToExact phases love
+-- for all six phases, both models and every selection
+pub step-two-close : (phases : Phases) (love : LoveModel) (selection : ℕ) → CloseToExact phases love selection
 unfolding corrections correctionsOf
-step-two-close phases love = record {
-  c20 = printed-close phases love C20;
-  c21 = printed-close phases love C21;
-  s21 = printed-close phases love S21;
-  c22 = printed-close phases love C22;
-  s22 = printed-close phases love S22;
-}
+step-two-close phases love selection =
+    let near = as-printed-close (selectedLine love selection) (λ i l. selected-light love selection i) (linePhase phases) in
+    record { c20 = near C20; c21 = near C21; s21 = near S21; c22 = near C22; s22 = near S22 }

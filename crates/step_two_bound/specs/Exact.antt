@@ -9,7 +9,7 @@ use Rattle.choices.specs.declared.LoveModel.{LoveModel}
 use Rattle.series.specs.Exact.{scale, exact-sin, exact-cos}
 use Rattle.wave.specs.Wave.{sin, cos}
 use Rattle.whole.specs.Sum.{weightTo}
-use Rattle.step_two.specs.StepTwo.{printedSum, corrections}
+use Rattle.step_two.specs.StepTwo.{selectedSum, corrections}
 
 -- an exact sum has so many parts to a count: its sines are in units of 2^-30, over `scale`
 unfoldable pub partsOfACount : ℕ
@@ -33,13 +33,13 @@ pub record LinesCloseToExact (lines : ℕ → Line) (phase : ℕ → ℕ) (n : �
       (correctionOf (sumOf lines (λ i. cos (phase i)) (λ i. sin (phase i)) n k))
       (sumOf lines (λ i. exact-cos (phase i)) (λ i. exact-sin (phase i)) n k)
 
--- the printed lines' exact sums
-abbrev pub exactSum : Phases → LoveModel → Coefficient → ℤ
-exactSum phases love = printedSum exact-sin exact-cos phases love
+-- the exact sums of the printed lines that a selection names
+abbrev pub exactSum : Phases → LoveModel → ℕ → Coefficient → ℤ
+exactSum phases love selection = selectedSum exact-sin exact-cos phases love selection
 
-pub record CloseToExact (phases : Phases) (love : LoveModel) : Type 0 where
-  pub c20 : lessThanOneCount (corrections phases love .c20) (exactSum phases love C20)
-  pub c21 : lessThanOneCount (corrections phases love .c21) (exactSum phases love C21)
-  pub s21 : lessThanOneCount (corrections phases love .s21) (exactSum phases love S21)
-  pub c22 : lessThanOneCount (corrections phases love .c22) (exactSum phases love C22)
-  pub s22 : lessThanOneCount (corrections phases love .s22) (exactSum phases love S22)
+pub record CloseToExact (phases : Phases) (love : LoveModel) (selection : ℕ) : Type 0 where
+  pub c20 : lessThanOneCount (corrections phases love selection .c20) (exactSum phases love selection C20)
+  pub c21 : lessThanOneCount (corrections phases love selection .c21) (exactSum phases love selection C21)
+  pub s21 : lessThanOneCount (corrections phases love selection .s21) (exactSum phases love selection S21)
+  pub c22 : lessThanOneCount (corrections phases love selection .c22) (exactSum phases love selection C22)
+  pub s22 : lessThanOneCount (corrections phases love selection .s22) (exactSum phases love selection S22)

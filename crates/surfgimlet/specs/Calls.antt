@@ -16,6 +16,7 @@ use Rattle.places.specs.Places.{indexOf}
 use Rattle.refusals.specs.Outcome.{Outcome, firstOf, unlessRefused}
 use Rattle.refusals.specs.Told.{Told, toldNumber}
 use Rattle.refusals.specs.Told.Told.{accepted, refused}
+use Rattle.selection.specs.Selection.{selectionRefusal}
 use Rattle.sheet.specs.Accepted.{sheetRefusal}
 use Rattle.sheet.specs.Sheet.{placeCount}
 use Rattle.step_one.specs.StepOne.{Counts, places, corrections as bodyCorrections}
@@ -35,7 +36,7 @@ stepOne n c s moon sun love =
     let counts = countsOf (bodyCorrections moon sun love) in
     unlessRefused (stepOneRefusal n c s moon sun love) c s (addedAt places (counts .c) c) (addedAt places (counts .s) s)
 
--- ---- step two: refusals 1, then 2
+-- ---- step two: refusals 1, 2, then 14 (02, T-04)
 -- C20, C21, C22; S21, S22
 abbrev pub forC : Corrections → List ℤ
 forC d = d .c20 ∷ d .c21 ∷ d .c22 ∷ []
@@ -55,8 +56,11 @@ placesS = place 2 1 ∷ place 2 2 ∷ []
 unfoldable pub fiveCorrected : ℕ → List ℤ → List ℤ → Corrections → Outcome
 fiveCorrected number c s d = unlessRefused number c s (addedAt placesC (forC d) c) (addedAt placesS (forS d) s)
 
-unfoldable pub stepTwo : ℕ → List ℤ → List ℤ → Phases → LoveModel → Outcome
-stepTwo n c s phases love = fiveCorrected (fieldRefusal n c s) c s (lineCorrections phases love)
+unfoldable pub stepTwoRefusal : ℕ → List ℤ → List ℤ → ℕ → ℕ
+stepTwoRefusal n c s selection = firstOf (fieldRefusal n c s) (selectionRefusal selection)
+
+unfoldable pub stepTwo : ℕ → List ℤ → List ℤ → Phases → LoveModel → ℕ → Outcome
+stepTwo n c s phases love selection = fiveCorrected (stepTwoRefusal n c s selection) c s (lineCorrections phases love selection)
 
 -- ---- own lines (02, T-01): refusals 1, 2, then 12, 13
 unfoldable pub ownLinesRefusal : ℕ → List ℤ → List ℤ → List OwnLine → ℕ

@@ -9,7 +9,8 @@ ghost use Rattle.field.specs.Field.{fieldRefusal};
 ghost use Rattle.lines.specs.Lines.{findLine, tells as tellsSought};
 ghost use Rattle.permanent.specs.Systems.{movedC20, tells as tellsMoved};
 ghost use Rattle.refusals.specs.Numbers.{answerNumber};
-ghost use Rattle.refusals.specs.Outcome.{Gives, firstOf};
+ghost use Rattle.refusals.specs.Outcome.{Gives, GivesValue, firstOf};
+ghost use Rattle.selection.specs.Selection.{linesNamed, allLines, majorLines, tells as tellsCounted};
 ghost use Rattle.surfgimlet.specs.Calls.{forC, forS, placesC, placesS, fiveCorrected, stepOne, stepTwo, ownLines, oceanTide};
 ghost use Rattle.surfgimlet.specs.Inner.{FiveReady};
 use arguments::Multipliers;
@@ -26,6 +27,7 @@ use own::OwnLine;
 use own::Summed;
 use permanent::Moved;
 use refusals::Answer;
+use selection::Counted;
 
 // The places (2,0) and (2,1); those that follow are the next ones in the list.
 const PLACE_20: usize = 3;
@@ -82,18 +84,42 @@ pub fn step_one(
     answer
 }
 
-// Solid tide, step two (001, Tables 6.2; document 01, "Step two").
-// Given: a field, six phases, the Love model.
-// Done: the corrections of C20, C21, S21, C22 and S22 are added.
-// Refused: 1, then 2.
-pub fn step_two(n: u32, c: &mut [i64], s: &mut [i64], phases: Phases, love: LoveModel) -> Answer
-    ensures { λ r. ⌜ Gives (stepTwo n (now (c .entry)) (now (s .entry)) phases love) (answerNumber r) (now (c .exit)) (now (s .exit)) ⌝ }
+// Solid tide, step two (001, Tables 6.2; document 01, "Step two"; document 02, T-04).
+// Given: a field, six phases, the Love model, a selection whose bit i names printed line i.
+// Done: what the lines named, and no others, add to C20, C21, S21, C22 and S22 is added.
+// Answered: how many lines are named.
+// Refused: 1, 2, then 14, a bit above 48.
+pub fn step_two(
+    n: u32,
+    c: &mut [i64],
+    s: &mut [i64],
+    phases: Phases,
+    love: LoveModel,
+    selection: u64,
+) -> Counted
+    ensures { λ r. ⌜ GivesValue (stepTwo n (now (c .entry)) (now (s .entry)) phases love selection) (linesNamed selection) (tellsCounted r) (now (c .exit)) (now (s .exit)) ⌝ }
 {
-    let answer = field::tested(n, c, s);
-    if let Answer::Accepted = answer {
-        add_five(c, s, step_two::corrections_of(phases, love));
+    match refusals::first_of(field::tested(n, c, s), selection::tested(selection)) {
+        Answer::Accepted => {
+            add_five(c, s, step_two::corrections_of(phases, love, selection));
+            Counted::Lines(selection::lines_named(selection))
+        }
+        Answer::Refused(why) => Counted::Refused(why),
     }
-    answer
+}
+
+// The selection of all 49 printed lines.
+pub fn all_lines() -> u64
+    ensures { λ r. ⌜ r ≡ allLines ⌝ }
+{
+    selection::all_lines()
+}
+
+// The selection of the printed lines that have an anelastic amplitude, ip or op, of at least ten tenths.
+pub fn major_lines() -> u64
+    ensures { λ r. ⌜ r ≡ majorLines ⌝ }
+{
+    selection::major_lines()
 }
 
 // Tide lines of an operator's own (document 02, T-01).

@@ -1,5 +1,5 @@
 -- Sums and tests over a counted run of terms.
-use mathlib.Core.Bool.{Bool, true, _&&_}
+use mathlib.Core.Bool.{Bool, true, cond, _&&_}
 use Prim.Native.Nat.{ℕ, zero, suc, _+_}
 use lib.IntN.{ℤ, pos, natAbs, _+ℤ_}
 
@@ -17,3 +17,8 @@ weightTo f (suc n) = weightTo f n + natAbs (f n)
 unfoldable pub allTo : (ℕ → Bool) → ℕ → Bool
 allTo f zero = true
 allTo f (suc n) = allTo f n && f n
+
+-- of how many of 0 .. n - 1 f holds
+unfoldable pub countTo : (ℕ → Bool) → ℕ → ℕ
+countTo f zero = 0
+countTo f (suc n) = countTo f n + cond (f n) 1 0

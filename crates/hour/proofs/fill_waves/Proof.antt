@@ -21,19 +21,19 @@ use Rattle.hour.proofs.fill_waves.Statement.{statement}
 use Rattle.hour.proofs.fill_waves.Tie as tie
 
 -- what is kept of line i, of its sines or of its cosines
-abbrev value : (ℕ → ℤ) → Phases → LoveModel → ℕ → ℤ
-value W phases love i = cond (isUsed love i) (W (linePhase phases i)) (pos 0)
+abbrev value : (ℕ → ℤ) → Phases → LoveModel → ℕ → ℕ → ℤ
+value W phases love selection i = cond (isUsed love selection i) (W (linePhase phases i)) (pos 0)
 
 abbrev Inv-loop : tie.InvT-loop
-Inv-loop phases love cosines₀ sines₀ digits i₀ cosines sines i =
+Inv-loop phases love selection cosines₀ sines₀ digits i₀ cosines sines i =
     (i ≤ 49)
     × (length cosines ≡ 49)
     × (length sines ≡ 49)
-    × ((j : ℕ) → j < i → kept cosines j ≡ value cos phases love j)
-    × ((j : ℕ) → j < i → kept sines j ≡ value sin phases love j)
+    × ((j : ℕ) → j < i → kept cosines j ≡ value cos phases love selection j)
+    × ((j : ℕ) → j < i → kept sines j ≡ value sin phases love selection j)
 
 abbrev μ-loop : tie.MeasureT-loop
-μ-loop phases love cosines₀ sines₀ digits i₀ cosines sines i = 49 - i
+μ-loop phases love selection cosines₀ sines₀ digits i₀ cosines sines i = 49 - i
 
 loop-holds : tie.Need-loop-holds Inv-loop μ-loop
 loop-holds c = let p = c .before .before .pre in (omega arith, p .0, p .1, (λ j h. absurd (omega arith)), (λ j h. absurd (omega arith)))
@@ -50,7 +50,7 @@ module _ (c : tie.After-wave-by Inv-loop μ-loop) where
   i = head .loop .i
 
   abbrev wanted : (ℕ → ℤ) → ℤ
-  wanted W = value W (start .args .phases) (start .args .love) i
+  wanted W = value W (start .args .phases) (start .args .love) (start .args .selection) i
 
   -- the line's digits and its use are those of line i
   same : (W : ℕ → ℤ) {z : ℤ} → z ≡ cond (c .before .is-used .result) (W (phase (multipliersBy (getD (head .before .before .printed-tables .result .digits) i 0)) (start .args .phases))) (pos 0) → z ≡ wanted W
@@ -67,10 +67,10 @@ module _ (c : tie.After-wave-by Inv-loop μ-loop) where
   sine = same sin (c .wave-by .ensures .1)
 
   cosine-most : natAbs (wanted cos) ≤ 2 ^ 30
-  cosine-most = chosen-size (isUsed (start .args .love) i) (cos (linePhase (start .args .phases) i)) (cos-size (linePhase (start .args .phases) i))
+  cosine-most = chosen-size (isUsed (start .args .love) (start .args .selection) i) (cos (linePhase (start .args .phases) i)) (cos-size (linePhase (start .args .phases) i))
 
   sine-most : natAbs (wanted sin) ≤ 2 ^ 30
-  sine-most = chosen-size (isUsed (start .args .love) i) (sin (linePhase (start .args .phases) i)) (sin-size (linePhase (start .args .phases) i))
+  sine-most = chosen-size (isUsed (start .args .love) (start .args .selection) i) (sin (linePhase (start .args .phases) i)) (sin-size (linePhase (start .args .phases) i))
 
 cast-cosines : tie.Need-cast-cosines Inv-loop μ-loop
 cast-cosines c = let k = c .before .before in wave-fits (cosine k) (cosine-most k)
@@ -86,8 +86,8 @@ loop-again c =
       omega arith,
       simp length-set (l .inv .1),
       simp length-set (l .inv .2),
-      kept-more (value cos (x .phases) (x .love)) (l .i) (l .cosines) (l .inv .3) (omega arith) (wave-stored (cosine k) (cosine-most k)),
-      kept-more (value sin (x .phases) (x .love)) (l .i) (l .sines) (l .inv .4) (omega arith) (wave-stored (sine k) (sine-most k)),
+      kept-more (value cos (x .phases) (x .love) (x .selection)) (l .i) (l .cosines) (l .inv .3) (omega arith) (wave-stored (cosine k) (cosine-most k)),
+      kept-more (value sin (x .phases) (x .love) (x .selection)) (l .i) (l .sines) (l .inv .4) (omega arith) (wave-stored (sine k) (sine-most k)),
     )
 
 returns : tie.Need-returns Inv-loop μ-loop

@@ -1,10 +1,12 @@
 -- The header and the two lines, each put after the other, each end where the next begins.
 use borrow.Author.Needs.{needs}
 use mathlib.Core.List.{List, _++_}
+use mathlib.Core.Path.{_≡_}
 use Prim.Native.Nat.{ℕ}
 use native.Mathlib.Omega.{arith}
 use lib.ListN.{length-append}
 use Rattle.choices.specs.declared.LoveModel.the-variants.{Elastic, Anelastic}
+use Rattle.selection.specs.Selection.{allLines}
 use Rattle.step_two.specs.StepTwo.{corrections}
 use Rattle.step_two.proofs.Sizes.{corrections-small}
 use Rattle.text.specs.Text.{ascii}
@@ -20,10 +22,13 @@ module _ (s : tie.Start) where
   header = ascii "model C20 C21 S21 C22 S22\n"
 
   abbrev elastic : List ℕ
-  elastic = modelText (ascii "elastic") (corrections (s .args .phases) Elastic)
+  elastic = modelText (ascii "elastic") (corrections (s .args .phases) Elastic allLines)
 
   abbrev anelastic : List ℕ
-  anelastic = modelText (ascii "anelastic") (corrections (s .args .phases) Anelastic)
+  anelastic = modelText (ascii "anelastic") (corrections (s .args .phases) Anelastic allLines)
+
+all-lines-requires : tie.Need-all-lines-requires
+all-lines-requires c κs = search needs
 
 slice-aggregate-put-word : tie.Need-slice-aggregate-put-word
 slice-aggregate-put-word c = search needs
@@ -39,7 +44,10 @@ corrections-of-requires c κs = search needs
 
 module _ (c : tie.After-put-word) where
   abbrev start : tie.Start
-  start = c .before .before .before .before
+  start = c .before .before .before .before .before
+
+  all-lines : c .before .before .before .before .all-lines .result ≡ allLines
+  all-lines = c .before .before .before .before .all-lines .ensures
 
   done : Put (start .args .out .now) 0 (header start) (c .put-word .last .0) (c .put-word .result)
   unfolding ascii
@@ -55,7 +63,7 @@ module _ (c : tie.After-put-model) where
 
   done-elastic : Put (start word .args .out .now) 0 (header (start word) ++ elastic (start word)) (c .put-model .last .0) (c .put-model .result)
   unfolding ascii
-  done-elastic = put-then (done word) (rw (c .before .corrections-of .ensures) at (c .put-model .ensures))
+  done-elastic = put-then (done word) (rw (c .before .corrections-of .ensures, all-lines word) at (c .put-model .ensures))
 
 slice-aggregate-put-model-2 : tie.Need-slice-aggregate-put-model-2
 slice-aggregate-put-model-2 c = search needs
@@ -68,7 +76,7 @@ unfolding ascii
 put-model-requires-2 c κs =
     let l = c .before .before .before .before .before in
     let s = start (word l) in
-    omega (arith, put-length (done-elastic l), done-elastic l .next-is, length-append (header s) (elastic s), model-most (ascii "elastic") (corrections-small (s .args .phases) Elastic), s .pre)
+    omega (arith, put-length (done-elastic l), done-elastic l .next-is, length-append (header s) (elastic s), model-most (ascii "elastic") (corrections-small (s .args .phases) Elastic allLines), s .pre)
 
 module _ (c : tie.After-put-model2) where
   abbrev first-line : tie.After-put-model
@@ -76,7 +84,7 @@ module _ (c : tie.After-put-model2) where
 
   all : Put (start (word first-line) .args .out .now) 0 (modelsText (start (word first-line) .args .phases)) (c .put-model2 .last .0) (c .put-model2 .result)
   unfolding ascii modelsText
-  all = put-then (done-elastic first-line) (rw (c .before .corrections-of2 .ensures) at (c .put-model2 .ensures))
+  all = put-then (done-elastic first-line) (rw (c .before .corrections-of2 .ensures, all-lines (word first-line)) at (c .put-model2 .ensures))
 
 same-length : tie.Need-same-length
 same-length c = put-length (all (c .before .before))
@@ -88,6 +96,7 @@ pub put-models-spec : {M : Type 1} → statement M
 put-models-spec =
     tie.close
     (tie.spec
+    all-lines-requires
     slice-aggregate-put-word
     put-word-requires
     slice-aggregate-put-model

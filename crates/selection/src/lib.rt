@@ -1,0 +1,59 @@
+// Which of the printed lines step two uses (document 02, T-04): a selection is a 64-bit number whose bit i stands for line i, in 01's order.
+ghost use mathlib.Core.Path.{_≡_};
+ghost use Prim.Native.Nat.{_<_};
+ghost use Rattle.refusals.specs.Numbers.{answerNumber};
+ghost use Rattle.selection.specs.Selection.{names as namesLine, linesNamed, selectionRefusal, allLines, majorLines};
+use refusals::Answer;
+use refusals::Refusal;
+
+const ALL_LINES: u64 = 0x1ffffffffffff;
+
+const MAJOR_LINES: u64 = 0x10984342ff498;
+
+// The answer of a call that takes a selection.
+pub enum Counted {
+    // How many lines the selection names.
+    Lines(u32),
+    Refused(Refusal),
+}
+
+// The profile of all 49 lines.
+pub fn all_lines() -> u64
+    ensures { λ r. ⌜ r ≡ allLines ⌝ }
+{
+    ALL_LINES
+}
+
+// The profile of the lines that have an anelastic amplitude, ip or op, of at least ten tenths.
+pub fn major_lines() -> u64
+    ensures { λ r. ⌜ r ≡ majorLines ⌝ }
+{
+    MAJOR_LINES
+}
+
+// Whether a selection names line i.
+pub fn names(selection: u64, i: usize) -> bool
+    requires { ⌜ i < 49 ⌝ }
+    ensures { λ r. ⌜ r ≡ namesLine selection i ⌝ }
+{
+    (selection >> i) % 2 == 1
+}
+
+// Refused: 14, a bit above 48.
+pub fn tested(selection: u64) -> Answer
+    ensures { λ r. ⌜ answerNumber r ≡ selectionRefusal selection ⌝ }
+{
+    if limits::is_selection(selection) {
+        Answer::Accepted
+    } else {
+        Answer::Refused(Refusal::SelectionValue)
+    }
+}
+
+// How many lines a selection names.
+pub fn lines_named(selection: u64) -> u32
+    requires { ⌜ selectionRefusal selection ≡ 0 ⌝ }
+    ensures { λ r. ⌜ r ≡ linesNamed selection ⌝ }
+{
+    u64::count_ones(selection)
+}
