@@ -1,7 +1,7 @@
 -- Where every number given names a case, a call is the unit's own on those cases; else it is 100, and nothing has changed.
 use mathlib.Core.Bool.{true, false, _&&_}
 use mathlib.Core.List.{List}
-use mathlib.Core.Path.{_≡_, ap}
+use mathlib.Core.Path.{_≡_, ap, subst}
 use Prim.Native.Nat.{ℕ}
 use lib.IntN.{ℤ}
 use Rattle.arguments.specs.declared.Phases.{Phases}
@@ -14,10 +14,16 @@ use Rattle.crossing.specs.Choices.{loveModel, frameOf, permanentSystem, bodyOf}
 use Rattle.crossing.specs.Inner.{names, Converts}
 use Rattle.crossing.proofs.Choices.{hundred, one-named, one-missing, three-named, three-missing}
 use Rattle.permanent.specs.Systems.{movedC20}
-use Rattle.refusals.specs.Outcome.{Outcome}
+use Rattle.leaving.specs.Leaving.{Leaves, GivesAndLeaves}
+use Rattle.refusals.specs.Outcome.{Outcome, GivesValue}
+use Rattle.refusals.specs.Told.{Told}
 use Rattle.refusals.specs.Told.Told.{accepted, refused}
 use Rattle.surfgimlet.specs.Calls.{stepOne, stepTwo, oceanTide}
 use Rattle.boundary.specs.Calls.{outcomeOf, stepOneGiven, stepTwoGiven, oceanGiven, moveGiven}
+
+-- a value that is told, left
+pub told-and-left : {A : Type 0} {o : Outcome} {value : A} {told : Told A} {c s : List ℤ} {number : ℕ} {before after : A} → GivesValue o value told c s → Leaves told before number after → GivesAndLeaves o value number c s before after
+told-and-left {A} {o} {value} {told} {c} {s} {number} {before} {after} g l = record { left = subst (λ (t : Told A). Leaves t before number after) (g .answer) l; list-c = g .list-c; list-s = g .list-s }
 
 module _ (n : ℕ) (c s : List ℤ) where
   abbrev pub kept : Outcome
@@ -35,13 +41,13 @@ module _ (n : ℕ) (c s : List ℤ) where
         ap (outcomeOf c s) (three-missing (loveModel love) (bodyOf moon) (bodyOf sun) (λ k m b. accepted (stepOne n c s m b k)) (hundred _ love) (hundred _ (moon .kind)) (hundred _ (sun .kind)) e)
 
   module _ (phases : Phases) where
-    pub step-two-named : (love : ℕ) (k : LoveModel) → names (loveModel love) ≡ true → Converts (loveModel love) k → stepTwoGiven n c s phases love ≡ stepTwo n c s phases k
+    pub step-two-named : (love selection : ℕ) (k : LoveModel) → names (loveModel love) ≡ true → Converts (loveModel love) k → stepTwoGiven n c s phases love selection ≡ stepTwo n c s phases k selection
     unfolding stepTwoGiven
-    step-two-named love k e h = ap (outcomeOf c s) (one-named (loveModel love) (λ k. accepted (stepTwo n c s phases k)) k e h)
+    step-two-named love selection k e h = ap (outcomeOf c s) (one-named (loveModel love) (λ k. accepted (stepTwo n c s phases k selection)) k e h)
 
-    pub step-two-missing : (love : ℕ) → names (loveModel love) ≡ false → stepTwoGiven n c s phases love ≡ kept
+    pub step-two-missing : (love selection : ℕ) → names (loveModel love) ≡ false → stepTwoGiven n c s phases love selection ≡ kept
     unfolding stepTwoGiven
-    step-two-missing love e = ap (outcomeOf c s) (one-missing (loveModel love) (λ k. accepted (stepTwo n c s phases k)) (hundred _ love) e)
+    step-two-missing love selection e = ap (outcomeOf c s) (one-missing (loveModel love) (λ k. accepted (stepTwo n c s phases k selection)) (hundred _ love) e)
 
     pub ocean-named : (sheet : List ℕ) (frame : ℕ) (f : Frame) → names (frameOf frame) ≡ true → Converts (frameOf frame) f → oceanGiven n c s sheet phases frame ≡ oceanTide n c s sheet phases f
     unfolding oceanGiven

@@ -26,8 +26,8 @@ unfoldable pub stepOneGiven : ℕ → List ℤ → List ℤ → GivenBody → Gi
 stepOneGiven n c s moon sun love =
     outcomeOf c s (next (loveModel love) (λ k. next (bodyOf moon) (λ m. next (bodyOf sun) (λ b. accepted (stepOne n c s m b k)))))
 
-unfoldable pub stepTwoGiven : ℕ → List ℤ → List ℤ → Phases → ℕ → Outcome
-stepTwoGiven n c s phases love = outcomeOf c s (next (loveModel love) (λ k. accepted (stepTwo n c s phases k)))
+unfoldable pub stepTwoGiven : ℕ → List ℤ → List ℤ → Phases → ℕ → ℕ → Outcome
+stepTwoGiven n c s phases love selection = outcomeOf c s (next (loveModel love) (λ k. accepted (stepTwo n c s phases k selection)))
 
 unfoldable pub oceanGiven : ℕ → List ℤ → List ℤ → List ℕ → Phases → ℕ → Outcome
 oceanGiven n c s sheet phases frame = outcomeOf c s (next (frameOf frame) (λ f. accepted (oceanTide n c s sheet phases f)))

@@ -3,10 +3,11 @@
 ghost use mathlib.Core.Path.{_≡_};
 ghost use Rattle.crossing.specs.Choices.{unlisted};
 ghost use Rattle.doodson.specs.Doodson.{writeDoodson};
-ghost use Rattle.leaving.specs.Leaving.{found, Leaves};
+ghost use Rattle.leaving.specs.Leaving.{found, Leaves, GivesAndLeaves};
 ghost use Rattle.lines.specs.Lines.{findLine};
 ghost use Rattle.refusals.specs.Outcome.{Gives};
 ghost use Rattle.surfgimlet.specs.Calls.{ownLines};
+ghost use Rattle.selection.specs.Selection.{linesNamed, allLines, majorLines};
 ghost use Rattle.boundary.specs.Calls.{versionNumber, stepOneGiven, stepTwoGiven, oceanGiven, moveGiven, multipliersGiven};
 use arguments::Phases;
 use bodies::Body;
@@ -20,14 +21,14 @@ const NO_SUCH_CHOICE: u32 = 100;
 
 const MAJOR: u32 = 1;
 
-const MINOR: u32 = 2;
+const MINOR: u32 = 3;
 
 const PATCH: u32 = 0;
 
 // The version as one number, which SURFGIMLET_VERSION of the header equals.
 #[no_mangle]
 pub extern "C" fn surfgimlet_version() -> u32
-    ensures { λ r. ⌜ r ≡ versionNumber 1 2 0 ⌝ }
+    ensures { λ r. ⌜ r ≡ versionNumber 1 3 0 ⌝ }
 {
     1000000 * MAJOR + 1000 * MINOR + PATCH
 }
@@ -62,15 +63,34 @@ pub extern "C" fn surfgimlet_step_two(
     s: &mut [i64],
     phases: Phases,
     love: u32,
+    selection: u64,
+    lines: &mut u32,
 ) -> u32
-    ensures { λ r. ⌜ Gives (stepTwoGiven n (now (c .entry)) (now (s .entry)) phases love) r (now (c .exit)) (now (s .exit)) ⌝ }
+    ensures { λ r. ⌜ GivesAndLeaves (stepTwoGiven n (now (c .entry)) (now (s .entry)) phases love selection) (linesNamed selection) r (now (c .exit)) (now (s .exit)) (now (lines .entry)) (now (lines .exit)) ⌝ }
 {
     if crossing::is_love(love) {
         let love: LoveModel = crossing::love_of(love);
-        refusals::answer_number(surfgimlet::step_two(n, c, s, phases, love))
+        let told = surfgimlet::step_two(n, c, s, phases, love, selection);
+        leaving::leave_count(told, lines)
     } else {
         NO_SUCH_CHOICE
     }
+}
+
+// The selection of all printed lines.
+#[no_mangle]
+pub extern "C" fn surfgimlet_all_lines() -> u64
+    ensures { λ r. ⌜ r ≡ allLines ⌝ }
+{
+    surfgimlet::all_lines()
+}
+
+// The selection of the lines of at least ten tenths.
+#[no_mangle]
+pub extern "C" fn surfgimlet_major_lines() -> u64
+    ensures { λ r. ⌜ r ≡ majorLines ⌝ }
+{
+    surfgimlet::major_lines()
 }
 
 // Tide lines of an operator's own. Refused as surfgimlet::own_lines.

@@ -5,6 +5,7 @@ use Prim.Native.Nat.{ℕ}
 use lib.IntN.{ℤ}
 use Rattle.arguments.specs.declared.Multipliers.{Multipliers}
 use Rattle.lines.specs.Lines.{Found}
+use Rattle.refusals.specs.Outcome.{Outcome, toldUnless}
 use Rattle.refusals.specs.Told.{Told, toldNumber, next}
 use Rattle.refusals.specs.Told.Told.{accepted, refused}
 
@@ -28,3 +29,9 @@ toldOr before (refused number) = before
 pub record Leaves {A : Type 0} (told : Told A) (before : A) (number : ℕ) (after : A) : Type 0 where
   pub answer : number ≡ toldNumber told
   pub result : after ≡ toldOr before told
+
+-- a call over a field that answers a value besides gives an outcome and leaves the value: none where the outcome is a refusal
+pub record GivesAndLeaves {A : Type 0} (o : Outcome) (value : A) (number : ℕ) (c s : List ℤ) (before after : A) : Type 0 where
+  pub left : Leaves (toldUnless (o .number) value) before number after
+  pub list-c : c ≡ o .c
+  pub list-s : s ≡ o .s

@@ -3,12 +3,14 @@
 ghost use Rattle.doodson.specs.Doodson.{tellsRead, tellsWritten};
 ghost use Rattle.lines.specs.Lines.{tells as tellsSought};
 ghost use Rattle.permanent.specs.Systems.{tells as tellsMoved};
+ghost use Rattle.selection.specs.Selection.{tells as tellsCounted};
 ghost use Rattle.leaving.specs.Leaving.{listedOf, found, Leaves};
 use doodson::Read;
 use doodson::Written;
 use lines::Sought;
 use permanent::Moved;
 use refusals::refusal_number;
+use selection::Counted;
 
 pub fn leave_moved(told: Moved, moved: &mut i64) -> u32
     ensures { λ r. ⌜ Leaves (tellsMoved told) (now (moved .entry)) r (now (moved .exit)) ⌝ }
@@ -19,6 +21,18 @@ pub fn leave_moved(told: Moved, moved: &mut i64) -> u32
             0
         }
         Moved::Refused(why) => refusal_number(why),
+    }
+}
+
+pub fn leave_count(told: Counted, lines: &mut u32) -> u32
+    ensures { λ r. ⌜ Leaves (tellsCounted told) (now (lines .entry)) r (now (lines .exit)) ⌝ }
+{
+    match told {
+        Counted::Lines(count) => {
+            *lines = count;
+            0
+        }
+        Counted::Refused(why) => refusal_number(why),
     }
 }
 

@@ -1,5 +1,5 @@
 // Runs the unit's calls on stored cases: a byte for the call, and what the call takes. A line each: the answer's number, 0 where the call is
-// accepted, and what it answers; of a call over a field, every entry of both lists as they are afterwards.
+// accepted, and what it answers; of a call over a field, then every entry of both lists as they are afterwards.
 use arguments::Multipliers;
 use bodies::Body;
 use bodies::Place;
@@ -19,12 +19,17 @@ use replay::read_u8;
 use replay::read_u32;
 use replay::write_next;
 use replay::write_number;
+use selection::Counted;
 
 // Room for the longest list of a case, which is of degree 60.
 const ROOM: usize = 2048;
 
 fn write_refused(refusal: Refusal) {
     write_number(refusals::refusal_number(refusal));
+}
+
+fn write_answer(answer: Answer) {
+    write_number(refusals::answer_number(answer));
 }
 
 fn write_small(x: i32) {
@@ -147,35 +152,42 @@ fn move_c20() {
     }
 }
 
-fn step_one(n: u32, c: &mut [i64], s: &mut [i64]) -> Answer {
+fn step_one(n: u32, c: &mut [i64], s: &mut [i64]) {
     let love = read_love();
     let moon = read_body();
     let sun = read_body();
-    surfgimlet::step_one(n, c, s, moon, sun, love)
+    write_answer(surfgimlet::step_one(n, c, s, moon, sun, love));
 }
 
-fn step_two(n: u32, c: &mut [i64], s: &mut [i64]) -> Answer {
+fn step_two(n: u32, c: &mut [i64], s: &mut [i64]) {
     let love = read_love();
     let phases = replay::read_phases();
-    surfgimlet::step_two(n, c, s, phases, love)
+    let selection = replay::read_u64();
+    match surfgimlet::step_two(n, c, s, phases, love, selection) {
+        Counted::Lines(lines) => {
+            write_number(0);
+            write_next(lines as i64);
+        }
+        Counted::Refused(refusal) => write_refused(refusal),
+    }
 }
 
-fn ocean_tide(n: u32, c: &mut [i64], s: &mut [i64]) -> Answer {
+fn ocean_tide(n: u32, c: &mut [i64], s: &mut [i64]) {
     let frame = read_frame();
     let phases = replay::read_phases();
     let mut sheet = [0u8; 65536];
     let count = replay::read_bytes(&mut sheet);
-    surfgimlet::ocean_tide(n, c, s, &sheet[..count], phases, frame)
+    write_answer(surfgimlet::ocean_tide(n, c, s, &sheet[..count], phases, frame));
 }
 
-fn called(call: u8, n: u32, c: &mut [i64], s: &mut [i64]) -> Answer {
+fn called(call: u8, n: u32, c: &mut [i64], s: &mut [i64]) {
     if call == 4 {
-        step_one(n, c, s)
+        step_one(n, c, s);
     } else {
         if call == 5 {
-            step_two(n, c, s)
+            step_two(n, c, s);
         } else {
-            ocean_tide(n, c, s)
+            ocean_tide(n, c, s);
         }
     }
 }
@@ -184,8 +196,7 @@ fn called(call: u8, n: u32, c: &mut [i64], s: &mut [i64]) -> Answer {
 fn over_lists(call: u8, n: u32, c: &mut [i64], s: &mut [i64]) {
     replay::read_entries(c);
     replay::read_entries(s);
-    let answer = called(call, n, c, s);
-    write_number(refusals::answer_number(answer));
+    called(call, n, c, s);
     replay::write_entries(c);
     replay::write_entries(s);
 }

@@ -46,8 +46,8 @@ module _ (c : tie.After-put-word) where
   abbrev start : tie.Start
   start = c .before .before .before .before .before
 
-  all-lines : c .before .before .before .before .all-lines .result ≡ allLines
-  all-lines = c .before .before .before .before .all-lines .ensures
+  all-lines : c .before .before .before .all-lines .result ≡ allLines
+  all-lines = c .before .before .before .all-lines .ensures
 
   done : Put (start .args .out .now) 0 (header start) (c .put-word .last .0) (c .put-word .result)
   unfolding ascii
