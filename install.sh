@@ -14,13 +14,15 @@ mkdir -p target "$prefix/include" "$prefix/lib/pkgconfig" "$prefix/share/surfgim
 rt staticlib boundary >target/install.log 2>&1 || { tail -n 20 target/install.log >&2; exit 1; }
 
 lib=$prefix/lib
+number=$(sed -n 's/^#define SURFGIMLET_VERSION //p' include/surfgimlet.h)
+# the major number is in the name: a program that was linked with another one does not start
+shared=libsurfgimlet.so.$((number / 1000000))
 install -m 644 target/staticlib/libboundary.a "$lib/libsurfgimlet.a"
-$CC -shared -Wl,-soname,libsurfgimlet.so.1 -Wl,-z,defs -Wl,--whole-archive "$lib/libsurfgimlet.a" -Wl,--no-whole-archive -o "$lib/libsurfgimlet.so.1"
-ln -sf libsurfgimlet.so.1 "$lib/libsurfgimlet.so"
+$CC -shared -Wl,-soname,"$shared" -Wl,-z,defs -Wl,--whole-archive "$lib/libsurfgimlet.a" -Wl,--no-whole-archive -o "$lib/$shared"
+ln -sf "$shared" "$lib/libsurfgimlet.so"
 install -m 644 include/surfgimlet.h "$prefix/include/"
 install -m 644 bindings/surfgimlet.f90 bindings/surfgimlet.py "$prefix/share/surfgimlet/"
 
-number=$(sed -n 's/^#define SURFGIMLET_VERSION //p' include/surfgimlet.h)
 cat >"$lib/pkgconfig/surfgimlet.pc" <<END
 prefix=\${pcfiledir}/../..
 modules=\${prefix}/share/surfgimlet

@@ -6,9 +6,10 @@ module surfgimlet
     private
     public :: c_int32_t, c_int64_t, c_size_t, c_double, c_int8_t
     public :: phases, body, own_line, phase, words
-    public :: version, step_one, step_two, own_lines, ocean_tide, move_c20, multipliers_of, number_of, find_line
+    public :: version, step_one, step_two, all_lines, major_lines, own_lines, ocean_tide, move_c20
+    public :: multipliers_of, number_of, find_line
 
-    integer(c_int32_t), parameter, public :: header_version = 1002000
+    integer(c_int32_t), parameter, public :: header_version = 2000000
     integer(c_int32_t), parameter, public :: elastic = 0, anelastic = 1
     integer(c_int32_t), parameter, public :: centre_of_figure = 0, centre_of_mass = 1
     integer(c_int32_t), parameter, public :: tide_free = 0, zero_tide = 1, mean_tide = 2
@@ -45,12 +46,23 @@ module surfgimlet
             type(body), value :: moon, sun
         end function
 
-        integer(c_int32_t) function c_step_two(n, c, c_length, s, s_length, at, love_model) bind(c, name="surfgimlet_step_two")
+        integer(c_int32_t) function c_step_two(n, c, c_length, s, s_length, at, love_model, selection, lines) &
+            bind(c, name="surfgimlet_step_two")
             import
             integer(c_int32_t), value :: n, love_model
             integer(c_int64_t), intent(inout) :: c(*), s(*)
             integer(c_size_t), value :: c_length, s_length
             type(phases), value :: at
+            integer(c_int64_t), value :: selection
+            integer(c_int32_t), intent(inout) :: lines
+        end function
+
+        integer(c_int64_t) function all_lines() bind(c, name="surfgimlet_all_lines")
+            import
+        end function
+
+        integer(c_int64_t) function major_lines() bind(c, name="surfgimlet_major_lines")
+            import
         end function
 
         integer(c_int32_t) function c_own_lines(n, c, c_length, s, s_length, lines, lines_length, at) &
@@ -109,11 +121,14 @@ contains
         answer = c_step_one(n, c, size(c, kind=c_size_t), s, size(s, kind=c_size_t), moon, sun, love_model)
     end function
 
-    integer(c_int32_t) function step_two(n, c, s, at, love_model) result(answer)
+    ! bit i of the selection names line i, as ibset(0_c_int64_t, i); lines is how many are named
+    integer(c_int32_t) function step_two(n, c, s, at, love_model, selection, lines) result(answer)
         integer(c_int32_t), intent(in) :: n, love_model
         integer(c_int64_t), intent(inout), contiguous :: c(:), s(:)
         type(phases), intent(in) :: at
-        answer = c_step_two(n, c, size(c, kind=c_size_t), s, size(s, kind=c_size_t), at, love_model)
+        integer(c_int64_t), intent(in) :: selection
+        integer(c_int32_t), intent(inout) :: lines
+        answer = c_step_two(n, c, size(c, kind=c_size_t), s, size(s, kind=c_size_t), at, love_model, selection, lines)
     end function
 
     integer(c_int32_t) function own_lines(n, c, s, lines, at) result(answer)
@@ -159,6 +174,7 @@ contains
         case (11); words = "no printed line has the Doodson number"
         case (12); words = "the list of own lines has more than 64 records"
         case (13); words = "an own line has a multiplier outside -13..13, a first one not 0, 1 or 2, or an amplitude beyond 100,000"
+        case (14); words = "the selection has a bit above 48, which stands for no line"
         case (100); words = "a choice, or a body's kind, is none of its numbers"
         case default; words = "no answer of this unit"
         end select

@@ -11,9 +11,9 @@ import os
 import pathlib
 from array import array
 from collections import namedtuple
-from ctypes import POINTER, byref, c_double, c_int32, c_int64, c_size_t, c_uint8, c_uint32
+from ctypes import POINTER, byref, c_double, c_int32, c_int64, c_size_t, c_uint8, c_uint32, c_uint64
 
-VERSION = 1002000
+VERSION = 2000000
 ELASTIC, ANELASTIC = 0, 1
 CENTRE_OF_FIGURE, CENTRE_OF_MASS = 0, 1
 TIDE_FREE, ZERO_TIDE, MEAN_TIDE = 0, 1, 2
@@ -34,6 +34,7 @@ WORDS = {
     11: "no printed line has the Doodson number",
     12: "the list of own lines has more than 64 records",
     13: "an own line has a multiplier outside -13..13, a first one not 0, 1 or 2, or an amplitude beyond 100,000",
+    14: "the selection has a bit above 48, which stands for no line",
     100: "a choice, or a body's kind, is none of its numbers",
 }
 
@@ -78,7 +79,7 @@ def _library():
     for name, given in (
             ('version', []),
             ('step_one', lists + [_Body, _Body, c_uint32]),
-            ('step_two', lists + [_Phases, c_uint32]),
+            ('step_two', lists + [_Phases, c_uint32, c_uint64, POINTER(c_uint32)]),
             ('own_lines', lists + [POINTER(_OwnLine), c_size_t, _Phases]),
             ('ocean_tide', lists + [POINTER(c_uint8), c_size_t, _Phases, c_uint32]),
             ('move_c20', [c_int64, c_uint32, c_uint32, c_uint32, POINTER(c_int64)]),
@@ -87,6 +88,9 @@ def _library():
             ('find_line', [c_uint32, POINTER(c_size_t), POINTER(c_int64), POINTER(c_int64)])):
         call = getattr(library, 'surfgimlet_' + name)
         call.argtypes, call.restype = given, c_uint32
+    for name in ('all_lines', 'major_lines'):
+        call = getattr(library, 'surfgimlet_' + name)
+        call.argtypes, call.restype = [], c_uint64
     return library
 
 
@@ -98,11 +102,15 @@ def _accepted(number):
         raise Refused(number)
 
 
-def _u32(value):
+def _unsigned(value, bits):
     # ctypes itself would take 2^32 + 165555 for 165555
-    if not 0 <= operator.index(value) < 2 ** 32:
-        raise OverflowError(f'{value} is not in 0..2^32-1')
+    if not 0 <= operator.index(value) < 2 ** bits:
+        raise OverflowError(f'{value} is not in 0..2^{bits}-1')
     return value
+
+
+def _u32(value):
+    return _unsigned(value, 32)
 
 
 def _phases(phases):
@@ -139,8 +147,21 @@ def step_one(n, c, s, moon, sun, love_model):
     _over_field(_unit.surfgimlet_step_one, n, c, s, _body(moon), _body(sun), _u32(love_model))
 
 
-def step_two(n, c, s, phases, love_model):
-    _over_field(_unit.surfgimlet_step_two, n, c, s, _phases(phases), _u32(love_model))
+def step_two(n, c, s, phases, love_model, selection):
+    """Bit i of the selection names line i; answers how many lines are named."""
+    lines = c_uint32()
+    _over_field(_unit.surfgimlet_step_two, n, c, s, _phases(phases), _u32(love_model), _unsigned(selection, 64), byref(lines))
+    return lines.value
+
+
+def all_lines():
+    """The selection of all 49 lines."""
+    return _unit.surfgimlet_all_lines()
+
+
+def major_lines():
+    """The selection of the lines that have an anelastic amplitude of at least ten tenths of 10^-12."""
+    return _unit.surfgimlet_major_lines()
 
 
 def own_lines(n, c, s, lines, phases):

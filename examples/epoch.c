@@ -112,8 +112,11 @@ int main(int argc, char **argv)
 
     accepted("step_one", surfgimlet_step_one(DEGREE, c, ENTRIES, s, ENTRIES, moon, sun, love));
     added("step one");
-    accepted("step_two", surfgimlet_step_two(DEGREE, c, ENTRIES, s, ENTRIES, at, love));
+    /* a laser operator's selection; an altimeter operator's may be surfgimlet_major_lines() */
+    uint32_t named;
+    accepted("step_two", surfgimlet_step_two(DEGREE, c, ENTRIES, s, ENTRIES, at, love, surfgimlet_all_lines(), &named));
     added("step two");
+    printf("lines named %" PRIu32 "\n", named);
     accepted("own_lines", surfgimlet_own_lines(DEGREE, c, ENTRIES, s, ENTRIES, lines, lines_length, at));
     added("own lines");
     accepted("ocean_tide", surfgimlet_ocean_tide(DEGREE, c, ENTRIES, s, ENTRIES, sheet, sheet_length, at, SURFGIMLET_CENTRE_OF_MASS));

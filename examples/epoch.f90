@@ -8,7 +8,7 @@ program epoch
     integer, parameter :: entries = (degree + 1) * (degree + 2) / 2
     integer(c_int64_t) :: c(entries) = 0, s(entries) = 0, c_before(entries) = 0, s_before(entries) = 0
     integer(c_int64_t) :: given(6), c20, first, second
-    integer(c_int32_t) :: n(6), number, answer, bits(6)
+    integer(c_int32_t) :: n(6), number, named, answer, bits(6)
     integer(c_size_t) :: index
     integer(c_int8_t), allocatable :: sheet(:)
     type(phases) :: at
@@ -35,8 +35,10 @@ program epoch
 
     call accepted('step_one', step_one(degree, c, s, moon, sun, love))
     call added('step one')
-    call accepted('step_two', step_two(degree, c, s, at, love))
+    ! a laser operator's selection; an altimeter operator's may be major_lines()
+    call accepted('step_two', step_two(degree, c, s, at, love, all_lines(), named))
     call added('step two')
+    print '(a, i0)', 'lines named ', named
     call accepted('own_lines', own_lines(degree, c, s, lines, at))
     call added('own lines')
     call accepted('ocean_tide', ocean_tide(degree, c, s, sheet, at, centre_of_mass))

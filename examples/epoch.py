@@ -38,12 +38,15 @@ def main():
     c, s = [0] * len(PLACES), [0] * len(PLACES)
     for name, call in (
             ('step one', lambda: unit.step_one(DEGREE, c, s, moon, sun, love)),
-            ('step two', lambda: unit.step_two(DEGREE, c, s, phases, love)),
+            # a laser operator's selection; an altimeter operator's may be unit.major_lines()
+            ('step two', lambda: unit.step_two(DEGREE, c, s, phases, love, unit.all_lines())),
             ('own lines', lambda: unit.own_lines(DEGREE, c, s, lines, phases)),
             ('ocean tide', lambda: unit.ocean_tide(DEGREE, c, s, sheet, phases, unit.CENTRE_OF_MASS))):
         before = c[:], s[:]
-        call()
+        named = call()
         added(name, before, (c, s))
+        if named is not None:
+            print('lines named', named)
 
     # K1 is 165,555; a printed line by its number, and a number that none has
     multipliers = unit.multipliers_of(165555)

@@ -6,7 +6,7 @@
  * corrections to what it is lent. Entries that a rule does not name, and S of order 0, keep their values. An accepted
  * call leaves the sum even where that lies outside the range; the next call on that field then answers 2.
  *
- * Every call but surfgimlet_version answers 0, or the number of a refusal: the first that applies in the order printed
+ * Every call marked SURFGIMLET_ANSWER answers 0, or the number of a refusal: the first that applies in the order printed
  * at the call. A refused call changes nothing it was lent, so an answer that nobody looks at may be a field without its
  * tide: compilers that can warn of it do.
  *
@@ -28,7 +28,7 @@
 #include <stdint.h>
 
 /* major * 1,000,000 + minor * 1,000 + patch; surfgimlet_version answers that of the library. */
-#define SURFGIMLET_VERSION 1002000
+#define SURFGIMLET_VERSION 2000000
 
 /* Where the compiler can, it warns of an answer that is not used. */
 #if defined(__cplusplus) && __cplusplus >= 201703L
@@ -54,6 +54,7 @@
 #define SURFGIMLET_NO_SUCH_LINE 11u
 #define SURFGIMLET_RECORD_COUNT 12u
 #define SURFGIMLET_RECORD_VALUE 13u
+#define SURFGIMLET_SELECTION_VALUE 14u
 #define SURFGIMLET_NO_SUCH_CHOICE 100u
 
 static inline const char *surfgimlet_words(uint32_t answer)
@@ -73,6 +74,7 @@ static inline const char *surfgimlet_words(uint32_t answer)
     case SURFGIMLET_NO_SUCH_LINE: return "no printed line has the Doodson number";
     case SURFGIMLET_RECORD_COUNT: return "the list of own lines has more than 64 records";
     case SURFGIMLET_RECORD_VALUE: return "an own line has a multiplier outside -13..13, a first one not 0, 1 or 2, or an amplitude beyond 100,000";
+    case SURFGIMLET_SELECTION_VALUE: return "the selection has a bit above 48, which stands for no line";
     case SURFGIMLET_NO_SUCH_CHOICE: return "a choice, or a body's kind, is none of its numbers";
     default: return "no answer of this unit";
     }
@@ -126,12 +128,21 @@ uint32_t surfgimlet_version(void);
 SURFGIMLET_ANSWER uint32_t surfgimlet_step_one(uint32_t n, int64_t *c, size_t c_length, int64_t *s, size_t s_length,
                                                surfgimlet_body moon, surfgimlet_body sun, uint32_t love_model);
 
-/* Solid tide, step two: the 49 printed lines (Tables 6.2). It goes with step one, under the same Love model.
- * Given: a field in counts, n its degree, the lengths in entries; the phases; a Love model.
- * Done: the corrections of C20, C21, S21, C22 and S22 are added.
- * Refused: 100; 1, 2. */
+/* Solid tide, step two: the printed lines (Tables 6.2) that a selection names. It goes with step one, under the same Love
+ * model. Bit i of a selection stands for line i, the index 0..48 that surfgimlet_find_line answers; 0 names no line.
+ * Given: a field in counts, n its degree, the lengths in entries; the phases; a Love model; a selection.
+ * Done: what the lines named, and no others, add to C20, C21, S21, C22 and S22 is added.
+ * Answered: in *lines, how many lines are named; the long-period ones count in the elastic model too, which has no
+ * amplitudes for them.
+ * Refused: 100; 1, 2; 14. */
 SURFGIMLET_ANSWER uint32_t surfgimlet_step_two(uint32_t n, int64_t *c, size_t c_length, int64_t *s, size_t s_length,
-                                               surfgimlet_phases phases, uint32_t love_model);
+                                               surfgimlet_phases phases, uint32_t love_model, uint64_t selection,
+                                               uint32_t *lines);
+
+/* Two selections: all 49 lines; and those that have an anelastic amplitude, in phase or out of phase, of at least ten
+ * tenths of 10^-12 without its sign, which are 21. */
+uint64_t surfgimlet_all_lines(void);
+uint64_t surfgimlet_major_lines(void);
 
 /* Tide lines of an operator's own. With x the phase of a line, its multipliers times the phases, the first multiplier says
  * what it adds, as it does for a printed line:

@@ -11,18 +11,23 @@ static void expect(const char *what, uint32_t answer, uint32_t wanted)
     faults++;
 }
 
-/* the printed lines as lines of one's own, anelastic; how many there are */
+/* the printed lines as lines of one's own, anelastic, and how many there are; and the two selections, told from them */
 static size_t printed(surfgimlet_own_line *lines)
 {
     size_t count = 0, index;
     int64_t first, second;
     int32_t m[6];
+    uint64_t all = 0, major = 0;
     for (uint32_t number = 0; number < 300000; number++) {
         if (surfgimlet_find_line(number, &index, &first, &second) != SURFGIMLET_ACCEPTED) continue;
         expect("a printed number", surfgimlet_multipliers_of(number, m), SURFGIMLET_ACCEPTED);
         surfgimlet_own_line line = {m[0], m[1], m[2], m[3], m[4], m[5], m[0] == 0 ? first : second, m[0] == 0 ? second : 0};
         lines[count++] = line;
+        all |= (uint64_t)1 << index;
+        if (line.ip >= 10 || line.ip <= -10 || line.op >= 10 || line.op <= -10) major |= (uint64_t)1 << index;
     }
+    expect("all lines", surfgimlet_all_lines() == all ? 0u : 1u, 0u);
+    expect("those of at least ten", surfgimlet_major_lines() == major ? 0u : 1u, 0u);
     return count;
 }
 
@@ -32,11 +37,12 @@ int main(void)
     const surfgimlet_phases at = {0, 0, 0, 0, 0, 0}, day = {327043742u, 329517021u, 656638906u, 3117674196u, 3812369497u, 3376471194u};
     int64_t c[15] = {0}, s[15] = {0}, own_c[15] = {0}, own_s[15] = {0}, moved = 0;
     surfgimlet_own_line lines[64] = {{1, 0, 0, 0, 0, 0, 3, 5}};
+    uint32_t named = 99;
 
     expect("the version", surfgimlet_version(), SURFGIMLET_VERSION);
 
     /* with length 0 a null pointer is welcome */
-    expect("no lists", surfgimlet_step_two(4, NULL, 0, NULL, 0, at, SURFGIMLET_ANELASTIC), SURFGIMLET_FIELD_SHAPE);
+    expect("no lists", surfgimlet_step_two(4, NULL, 0, NULL, 0, at, SURFGIMLET_ANELASTIC, 0, &named), SURFGIMLET_FIELD_SHAPE);
     expect("no sheet", surfgimlet_ocean_tide(4, c, 15, s, 15, NULL, 0, at, SURFGIMLET_CENTRE_OF_MASS), SURFGIMLET_SHEET_LENGTH);
 
     expect("no lines", surfgimlet_own_lines(4, c, 15, s, 15, NULL, 0, at), SURFGIMLET_ACCEPTED);
@@ -55,17 +61,28 @@ int main(void)
     /* the printed lines as lines of one's own are step two */
     expect("the printed lines", (uint32_t)printed(lines), 49u);
     expect("as one's own", surfgimlet_own_lines(4, own_c, 15, own_s, 15, lines, 49, day), SURFGIMLET_ACCEPTED);
-    expect("step two", surfgimlet_step_two(4, c, 15, s, 15, day, SURFGIMLET_ANELASTIC), SURFGIMLET_ACCEPTED);
+    expect("step two", surfgimlet_step_two(4, c, 15, s, 15, day, SURFGIMLET_ANELASTIC, surfgimlet_all_lines(), &named), SURFGIMLET_ACCEPTED);
     for (int i = 0; i < 15; i++) {
         expect("the same entry", c[i] == own_c[i] && s[i] == own_s[i] ? 0u : 1u, 0u);
         c[i] = s[i] = 0;
     }
 
+    /* a selection: none of the lines, those that the elastic model has no amplitudes for, and a bit that stands for none */
+    expect("the lines named", named, 49u);
+    expect("no lines named", surfgimlet_step_two(4, c, 15, s, 15, day, SURFGIMLET_ANELASTIC, 0, &named), SURFGIMLET_ACCEPTED);
+    expect("and counted", named, 0u);
+    expect("the long period", surfgimlet_step_two(4, c, 15, s, 15, day, SURFGIMLET_ELASTIC, (((uint64_t)1 << 21) - 1) << 26, &named), SURFGIMLET_ACCEPTED);
+    expect("it counts", named, 21u);
+    expect("bit 49", surfgimlet_step_two(4, c, 15, s, 15, day, SURFGIMLET_ANELASTIC, (uint64_t)1 << 49, &named), SURFGIMLET_SELECTION_VALUE);
+    expect("the count kept", named, 21u);
+    for (int i = 0; i < 15; i++) expect("an entry kept", c[i] == 0 && s[i] == 0 ? 0u : 1u, 0u);
+
     /* an accepted call leaves the sum, though it lie outside the range */
     s[4] = end;
-    expect("S21 at the end of the range", surfgimlet_step_two(4, c, 15, s, 15, at, SURFGIMLET_ANELASTIC), SURFGIMLET_ACCEPTED);
-    expect("S21 beyond it", s[4] == end + 450100 ? 0u : 1u, 0u);
-    expect("the next call", surfgimlet_step_two(4, c, 15, s, 15, at, SURFGIMLET_ANELASTIC), SURFGIMLET_FIELD_RANGE);
+    expect("S21 at the end of the range", surfgimlet_step_two(4, c, 15, s, 15, at, SURFGIMLET_ANELASTIC, (uint64_t)1 << 15, &named), SURFGIMLET_ACCEPTED);
+    expect("S21 beyond it", s[4] == end + 471000 ? 0u : 1u, 0u);
+    expect("K1 alone", named, 1u);
+    expect("the next call", surfgimlet_step_two(4, c, 15, s, 15, at, SURFGIMLET_ANELASTIC, (uint64_t)1 << 15, &named), SURFGIMLET_FIELD_RANGE);
 
     /* a C20 moved out of the range is not moved back */
     expect("a move", surfgimlet_move_c20(-end, SURFGIMLET_TIDE_FREE, SURFGIMLET_MEAN_TIDE, SURFGIMLET_ANELASTIC, &moved), SURFGIMLET_ACCEPTED);

@@ -171,6 +171,21 @@ static void to_a_half(surfgimlet_body *moon, surfgimlet_body *sun, uint32_t love
     move_to(moon, sun, love, i, one_in(2) ? half : nextafter(half, -INFINITY));
 }
 
+/* any lines, all, few, all but few, a profile; one in twelve with bits that stand for no line */
+static uint64_t selection(void)
+{
+    const uint64_t all = (UINT64_C(1) << 49) - 1;
+    uint64_t chosen = any() & all;
+    switch (below(6)) {
+    case 0: chosen = all; break;
+    case 1: chosen = UINT64_C(1) << below(49) | (one_in(2) ? 0 : UINT64_C(1) << below(49)); break;
+    case 2: chosen = all ^ (UINT64_C(1) << below(49) | UINT64_C(1) << below(49)); break;
+    case 3: chosen = one_in(2) ? surfgimlet_major_lines() : one_in(2) ? 0 : all ^ surfgimlet_major_lines(); break;
+    }
+    if (one_in(12)) chosen |= one_in(2) ? UINT64_C(1) << (49 + below(15)) : any();
+    return chosen;
+}
+
 static int32_t multiplier(void) { return (int32_t)within(one_in(4) ? 3 : 13); }
 
 static int64_t amplitude(void)
@@ -317,13 +332,14 @@ static void expect(int call, uint32_t answer, uint32_t told, int as_told)
     answered[call][told]++;
     if (answer == told && as_told) return;
     if (differences++ < 20)
-        printf("%s: answered %" PRIu32 ", the model %" PRIu32 "%s\n", names[call], answer, told, as_told ? "" : ", and an entry or a guard differs");
+        printf("%s: answered %" PRIu32 ", the model %" PRIu32 "%s\n", names[call], answer, told, as_told ? "" : ", and an entry, a result or a guard differs");
 }
 
 static void over_field(int call)
 {
     static lent c, s, c2, s2;
     static uint8_t bytes[70000], kept[70000];
+    results got = fresh(), as_told = fresh();
     uint32_t n = field(&c, &s), answer, told;
     memcpy(&c2, &c, sizeof c); memcpy(&s2, &s, sizeof s);
     if (call == OCEAN_TIDE) {
@@ -357,10 +373,11 @@ static void over_field(int call)
     } else {
         surfgimlet_phases f = phases();
         uint32_t love = choice(2);
-        answer = surfgimlet_step_two(n, or_null(&c), c.length, or_null(&s), s.length, f, love);
-        told = model_step_two(n, entries(&c2), c2.length, entries(&s2), s2.length, f, love);
+        uint64_t chosen = selection();
+        answer = surfgimlet_step_two(n, or_null(&c), c.length, or_null(&s), s.length, f, love, chosen, &got.lines);
+        told = model_step_two(n, entries(&c2), c2.length, entries(&s2), s2.length, f, love, chosen, &as_told.lines);
     }
-    expect(call, answer, told, same(&c, &c2) && same(&s, &s2));
+    expect(call, answer, told, same(&c, &c2) && same(&s, &s2) && same_results(&got, &as_told));
 }
 
 /* sine and cosine in their units, read from a sheet of 16 tides of 4 times the wave of tau, 2^24 counts each; every second phase lies
@@ -424,9 +441,13 @@ static void alone(int call)
 
 int main(int argc, char **argv)
 {
-    static const int numbers[CALLS][12] = {{0, 1, 2, 3, 4, 5, 6, 100, -1}, {0, 1, 2, 100, -1}, {0, 1, 2, 12, 13, -1},
+    static const int numbers[CALLS][12] = {{0, 1, 2, 3, 4, 5, 6, 100, -1}, {0, 1, 2, 14, 100, -1}, {0, 1, 2, 12, 13, -1},
         {0, 1, 2, 7, 8, 9, 100, -1}, {0, 2, 100, -1}, {0, 10, -1}, {0, 10, -1}, {0, 10, 11, -1}};
     long count = argc > 1 ? atol(argv[1]) : 1000000, missing = 0;
+    if (surfgimlet_all_lines() != (UINT64_C(1) << 49) - 1 || surfgimlet_major_lines() != model_major_lines()) {
+        differences++;
+        puts("a profile differs");
+    }
     waves(200000);
     for (long i = 0; i < count; i++) {
         uint64_t pick = below(24);

@@ -45,7 +45,7 @@ static void lend_records(lent_records *l, size_t count)
     memset(&l->all[1 + count], 0x5a, sizeof l->all[0]);
 }
 
-/* Results of a call without a field, each alone between guards; what they hold before is theirs to keep on refusal. */
+/* Results of a call, each alone between guards; what they hold before is theirs to keep on refusal. */
 typedef struct {
     uint64_t g0;
     int64_t moved;
@@ -61,6 +61,8 @@ typedef struct {
     uint64_t g6;
     int64_t second;
     uint64_t g7;
+    uint32_t lines;
+    uint32_t g8;
 } results;
 
 static results fresh(void)

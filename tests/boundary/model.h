@@ -4,6 +4,7 @@
 #define MODEL_H
 
 #include <math.h>
+#include <stdlib.h>
 #include <string.h>
 #include "surfgimlet.h"
 
@@ -141,23 +142,38 @@ static void model_add_five(int64_t *c, int64_t *s, model_sums sums)
 
 /* ---- step two */
 
+/* the lines that have an amplitude of at least ten in the anelastic model */
+static uint64_t model_major_lines(void)
+{
+    uint64_t chosen = 0, bit = 1;
+    for (int i = 0; i < 49; i++, bit *= 2) {
+        int32_t one = abs(model_lines[i].one), two = abs(model_lines[i].two);
+        if (i < 26 ? two >= 10 : i < 47 ? one >= 10 || two >= 10 : one >= 10) chosen += bit;
+    }
+    return chosen;
+}
+
 static uint32_t model_step_two(uint32_t n, int64_t *c, size_t c_length, int64_t *s, size_t s_length,
-                               surfgimlet_phases b, uint32_t love)
+                               surfgimlet_phases b, uint32_t love, uint64_t selection, uint32_t *lines)
 {
     model_sums sums = {0, 0, 0, 0, 0};
-    uint32_t refusal;
+    uint32_t refusal, count = 0;
     if (love > 1) return 100;
     refusal = model_field(n, c, c_length, s, s_length);
     if (refusal) return refusal;
+    if (selection >= UINT64_C(1) << 49) return 14;
     for (int i = 0; i < 49; i++) {
         int64_t one = model_lines[i].one, two = model_lines[i].two;
         int32_t m[6] = {0};
+        if (!(selection & UINT64_C(1) << i)) continue;
+        count++;
         model_multipliers_of(model_lines[i].number, m);
         if (i < 26) model_line(&sums, 1, love ? two : one, 0, model_phase(m, b));
         else if (i >= 47) model_line(&sums, 2, one, 0, model_phase(m, b));
         else if (love) model_line(&sums, 0, one, two, model_phase(m, b));
     }
     model_add_five(c, s, sums);
+    *lines = count;
     return 0;
 }
 

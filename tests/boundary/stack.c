@@ -39,7 +39,7 @@ static const surfgimlet_body moon = {SURFGIMLET_DIRECTION, 0.0123, 0.6, 0.0, 0.8
 
 static void nothing(void) { answer = 0; }
 static void step_one(void) { answer = surfgimlet_step_one(60, c, 1891, s, 1891, moon, moon, 1); }
-static void step_two(void) { answer = surfgimlet_step_two(60, c, 1891, s, 1891, b, 1); }
+static void step_two(void) { answer = surfgimlet_step_two(60, c, 1891, s, 1891, b, 1, surfgimlet_all_lines(), &number); }
 static void own_lines(void) { answer = surfgimlet_own_lines(60, c, 1891, s, 1891, lines, 64, b); }
 static void ocean_tide(void) { answer = surfgimlet_ocean_tide(60, c, 1891, s, 1891, sheet, sheet_length, b, 0); }
 static void move_c20(void) { answer = surfgimlet_move_c20(0, 0, 2, 1, &moved); }

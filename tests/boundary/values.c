@@ -5,12 +5,13 @@
 #include "lent.h"
 #include "surfgimlet.h"
 
-#define LEAST 18000 /* cases, so that an input cut short is noticed */
+#define LEAST 21000 /* cases, so that an input cut short is noticed */
 
-enum { STEP_ONE, STEP_TWO, OWN_LINES, OCEAN_TIDE, MOVE_C20, MULTIPLIERS_OF, NUMBER_OF, FIND_LINE, CALLS };
-static const char *names[CALLS] = {"step_one", "step_two", "own_lines", "ocean_tide", "move_c20", "multipliers_of", "number_of", "find_line"};
-static const int numbers[CALLS][10] = {{0, 1, 2, 3, 4, 5, 6, 100, -1}, {0, 1, 2, 100, -1}, {0, 1, 2, 12, 13, -1},
-    {0, 1, 2, 7, 8, 9, 100, -1}, {0, 2, 100, -1}, {0, 10, -1}, {0, 10, -1}, {0, 10, 11, -1}};
+enum { STEP_ONE, STEP_TWO, OWN_LINES, OCEAN_TIDE, MOVE_C20, MULTIPLIERS_OF, NUMBER_OF, FIND_LINE, ALL_LINES, MAJOR_LINES, CALLS };
+static const char *names[CALLS] = {"step_one", "step_two", "own_lines", "ocean_tide", "move_c20", "multipliers_of", "number_of", "find_line",
+    "all_lines", "major_lines"};
+static const int numbers[CALLS][10] = {{0, 1, 2, 3, 4, 5, 6, 100, -1}, {0, 1, 2, 14, 100, -1}, {0, 1, 2, 12, 13, -1},
+    {0, 1, 2, 7, 8, 9, 100, -1}, {0, 2, 100, -1}, {0, 10, -1}, {0, 10, -1}, {0, 10, 11, -1}, {0, -1}, {0, -1}};
 static long answered[CALLS][101], cases, differences;
 
 static uint32_t n;
@@ -23,12 +24,19 @@ static int64_t word(void)
     return x;
 }
 
+/* 64 bits: a selection, or those of a float */
+static uint64_t bits(void)
+{
+    uint64_t x;
+    if (scanf("%" SCNu64, &x) != 1) { puts("values: a word is missing"); exit(1); }
+    return x;
+}
+
 static double real(void)
 {
-    uint64_t bits;
+    uint64_t b = bits();
     double x;
-    if (scanf("%" SCNu64, &bits) != 1) { puts("values: a float is missing"); exit(1); }
-    memcpy(&x, &bits, sizeof x);
+    memcpy(&x, &b, sizeof x);
     return x;
 }
 
@@ -86,7 +94,7 @@ static void expect(int call, uint32_t answer, uint32_t number, int as_told)
     if (answer == number && as_told) return;
     if (differences++ < 20)
         printf("%s, case %ld: answered %" PRIu32 ", told %" PRIu32 "%s\n", names[call], cases, answer, number,
-               as_told ? "" : ", and an entry, a record or a guard differs");
+               as_told ? "" : ", and an entry, a record, a result or a guard differs");
 }
 
 static size_t sheet(uint8_t *bytes)
@@ -105,13 +113,14 @@ static void over_field(int call)
 {
     static uint8_t bytes[100000];
     static lent_records lines, kept; /* those lent last */
+    results got = fresh(), told = fresh();
     uint32_t choice = call == OWN_LINES ? 0 : (uint32_t)word(), number, answer;
     if (call == STEP_ONE) {
         surfgimlet_body moon = body(), sun = body();
         answer = surfgimlet_step_one(n, or_null(&c), c.length, or_null(&s), s.length, moon, sun, choice);
     } else if (call == STEP_TWO) {
         surfgimlet_phases b = phases();
-        answer = surfgimlet_step_two(n, or_null(&c), c.length, or_null(&s), s.length, b, choice);
+        answer = surfgimlet_step_two(n, or_null(&c), c.length, or_null(&s), s.length, b, choice, bits(), &got.lines);
     } else if (call == OWN_LINES) {
         surfgimlet_phases b;
         records(&lines);
@@ -124,9 +133,18 @@ static void over_field(int call)
         answer = surfgimlet_ocean_tide(n, or_null(&c), c.length, or_null(&s), s.length, length ? bytes : NULL, length, b, choice);
     }
     number = (uint32_t)word();
+    if (call == STEP_TWO && number == 0) told.lines = (uint32_t)word();
     change(&told_c); change(&told_s);
-    expect(call, answer, number, same(&c, &told_c) && same(&s, &told_s) && !memcmp(&lines, &kept, sizeof lines));
+    expect(call, answer, number, same(&c, &told_c) && same(&s, &told_s) && !memcmp(&lines, &kept, sizeof lines) && same_results(&got, &told));
     memcpy(&c, &told_c, sizeof c); memcpy(&s, &told_s, sizeof s);
+}
+
+/* the two selections that are supplied */
+static void profile(int call)
+{
+    uint64_t lines = call == ALL_LINES ? surfgimlet_all_lines() : surfgimlet_major_lines();
+    uint32_t number = (uint32_t)word();
+    expect(call, 0, number, lines == bits());
 }
 
 static void alone(int call)
@@ -172,7 +190,8 @@ int main(void)
         while (call < CALLS && strcmp(name, names[call])) call++;
         if (call == CALLS) { printf("values: no call is named %s\n", name); return 1; }
         if (call <= OCEAN_TIDE) over_field(call);
-        else alone(call);
+        else if (call <= FIND_LINE) alone(call);
+        else profile(call);
     }
     for (int call = 0; call < CALLS; call++) {
         printf("values: %s answered", names[call]);

@@ -22,6 +22,7 @@ LOVES = (t.ELASTIC, t.ANELASTIC)
 FRAMES = (t.FIGURE, t.MASS)
 SYSTEMS = (t.TIDE_FREE, t.ZERO, t.MEAN)
 KINDS = (t.RECTANGULAR, t.DIRECTION)
+PROFILES = {'all_lines': t.ALL_LINES, 'major_lines': t.MAJOR_LINES}
 NO_SUCH_CHOICE = 100
 NO_CHOICES = (3, 255, 256, 1 << 31, (1 << 31) + 1, g.U32)
 ZEROS = 4, [0] * 15, [0] * 15
@@ -87,6 +88,8 @@ def alone(name, *args):
     if name == 'number_of':
         number, written = t.doodson_write(args)
         return number, (written,)
+    if name in PROFILES:
+        return 0, (PROFILES[name],)
     return {'multipliers_of': t.doodson_read, 'find_line': t.find_line}[name](*args)
 
 
@@ -320,6 +323,7 @@ def some_lines(selection):
 
 def selections():
     """Each line alone and all but it, two at a time, the bands, the profiles and none, lines at ties and small ones together; and any, in rows."""
+    yield from zip(PROFILES)
     yield from selections_refused()
     at_lines = lambda *chosen: [call for selection in chosen for call in both_models(telling.LINE_PHASES, selection)]
     yield ZEROS, at_lines(0, t.ALL_LINES, t.MAJOR_LINES, *g.BANDS)

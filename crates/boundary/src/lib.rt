@@ -19,16 +19,16 @@ use own::OwnLine;
 
 const NO_SUCH_CHOICE: u32 = 100;
 
-const MAJOR: u32 = 1;
+const MAJOR: u32 = 2;
 
-const MINOR: u32 = 3;
+const MINOR: u32 = 0;
 
 const PATCH: u32 = 0;
 
 // The version as one number, which SURFGIMLET_VERSION of the header equals.
 #[no_mangle]
 pub extern "C" fn surfgimlet_version() -> u32
-    ensures { λ r. ⌜ r ≡ versionNumber 1 3 0 ⌝ }
+    ensures { λ r. ⌜ r ≡ versionNumber 2 0 0 ⌝ }
 {
     1000000 * MAJOR + 1000 * MINOR + PATCH
 }
