@@ -99,7 +99,8 @@ pub fn step_two(
 ) -> Counted
     ensures { λ r. ⌜ GivesValue (stepTwo n (now (c .entry)) (now (s .entry)) phases love selection) (linesNamed selection) (tellsCounted r) (now (c .exit)) (now (s .exit)) ⌝ }
 {
-    match refusals::first_of(field::tested(n, c, s), selection::tested(selection)) {
+    let chosen = selection::tested(selection);
+    match refusals::first_of(field::tested(n, c, s), chosen) {
         Answer::Accepted => {
             add_five(c, s, step_two::corrections_of(phases, love, selection));
             Counted::Lines(selection::lines_named(selection))

@@ -11,7 +11,7 @@ returns c = rw (c .enum-told .given .1, c .before .before .names .ensures) refl
 
 returns-2 : tie.Need-returns-2
 unfolding isUsed isInModel
-returns-2 c = rw (c .enum-told2 .given .1, c .before .before .names .ensures) refl
+returns-2 c = rw (c .enum-told2 .given .1) (c .before .before .names .ensures)
 
 pub is-used-spec : {M : Type 1} → statement M
 is-used-spec = tie.close (tie.spec (λ c κs. search needs) (λ c. search needs) (λ c. search needs) returns returns-2)

@@ -1,7 +1,7 @@
 -- The header and the two lines, each put after the other, each end where the next begins.
 use borrow.Author.Needs.{needs}
 use mathlib.Core.List.{List, _++_}
-use mathlib.Core.Path.{_≡_}
+use mathlib.Core.Path.{_≡_, ap, _∙_}
 use Prim.Native.Nat.{ℕ}
 use native.Mathlib.Omega.{arith}
 use lib.ListN.{length-append}
@@ -61,9 +61,12 @@ module _ (c : tie.After-put-model) where
   abbrev word : tie.After-put-word
   word = c .before .before .before .before .before .before
 
+  given : c .before .corrections-of .result ≡ corrections (start word .args .phases) Elastic allLines
+  given = c .before .corrections-of .ensures ∙ ap (λ (k : ℕ). corrections (start word .args .phases) Elastic k) (all-lines word)
+
   done-elastic : Put (start word .args .out .now) 0 (header (start word) ++ elastic (start word)) (c .put-model .last .0) (c .put-model .result)
   unfolding ascii
-  done-elastic = put-then (done word) (rw (c .before .corrections-of .ensures, all-lines word) at (c .put-model .ensures))
+  done-elastic = put-then (done word) (rw given at (c .put-model .ensures))
 
 slice-aggregate-put-model-2 : tie.Need-slice-aggregate-put-model-2
 slice-aggregate-put-model-2 c = search needs
@@ -82,9 +85,12 @@ module _ (c : tie.After-put-model2) where
   abbrev first-line : tie.After-put-model
   first-line = c .before .before .before .before .before .before
 
+  given-2 : c .before .corrections-of2 .result ≡ corrections (start (word first-line) .args .phases) Anelastic allLines
+  given-2 = c .before .corrections-of2 .ensures ∙ ap (λ (k : ℕ). corrections (start (word first-line) .args .phases) Anelastic k) (all-lines (word first-line))
+
   all : Put (start (word first-line) .args .out .now) 0 (modelsText (start (word first-line) .args .phases)) (c .put-model2 .last .0) (c .put-model2 .result)
   unfolding ascii modelsText
-  all = put-then (done-elastic first-line) (rw (c .before .corrections-of2 .ensures, all-lines (word first-line)) at (c .put-model2 .ensures))
+  all = put-then (done-elastic first-line) (rw given-2 at (c .put-model2 .ensures))
 
 same-length : tie.Need-same-length
 same-length c = put-length (all (c .before .before))

@@ -22,7 +22,7 @@ module _ (c : tie.After-first-of) where
 
   first : answerNumber (c .first-of .result) ≡ stepTwoRefusal (start .args .n) (start .args .c .now) (start .args .s .now) (start .args .selection)
   unfolding stepTwoRefusal
-  first = c .first-of .ensures ∙ ap₂ firstOf (c .before .before .tested .ensures) (c .before .tested2 .ensures)
+  first = c .first-of .ensures ∙ ap₂ firstOf (c .before .tested2 .ensures) (c .before .before .before .before .tested .ensures)
 
 -- where neither applies
 module _ (c : tie.After-enum-told) where
