@@ -17,8 +17,8 @@ pub one-left : {A : Type 0} (told : Told A) (before : A) (number number′ : ℕ
 one-left told before number number′ after after′ g h = (g .answer ∙ sym (h .answer), g .result ∙ sym (h .result))
 
 -- step two: the answer, both lists and the count
-pub one-counted : (o : Outcome) (lines before number number′ after after′ : ℕ) (c c′ s s′ : List ℤ) → GivesAndLeaves o lines number c s before after → GivesAndLeaves o lines number′ c′ s′ before after′
+pub one-named : (o : Outcome) (lines before number number′ after after′ : ℕ) (c c′ s s′ : List ℤ) → GivesAndLeaves o lines number c s before after → GivesAndLeaves o lines number′ c′ s′ before after′
     → (number ≡ number′) × (after ≡ after′) × (c ≡ c′) × (s ≡ s′)
-one-counted o lines before number number′ after after′ c c′ s s′ g h =
+one-named o lines before number number′ after after′ c c′ s s′ g h =
     let l = one-left _ before number number′ after after′ (g .left) (h .left) in
     (l .0, l .1, g .list-c ∙ sym (h .list-c), g .list-s ∙ sym (h .list-s))

@@ -71,7 +71,7 @@ pub extern "C" fn surfgimlet_step_two(
     if crossing::is_love(love) {
         let love: LoveModel = crossing::love_of(love);
         let told = surfgimlet::step_two(n, c, s, phases, love, selection);
-        leaving::leave_count(told, lines)
+        leaving::leave_named(told, lines)
     } else {
         NO_SUCH_CHOICE
     }

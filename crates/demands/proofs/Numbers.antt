@@ -1,23 +1,28 @@
--- The calls without a field are refused exactly when the table says: 2 of a C20 to move, 10 and 11 of a Doodson number.
-use borrow.Author.Tests.{leb-true, leb-false, le-leb, lt-leb, eqb-true, eq-eqb, ne-eqb}
-use mathlib.Core.Bool.{Bool, true, false, cond}
+-- The calls without a field are refused exactly when the table says: 2 of a C20 to move, 10 and 11 of a Doodson number. And 14 of step two.
+use borrow.Author.Tests.{leb-true, leb-false, le-leb, lt-leb, ltb-true, ltb-false, eq-eqb, ne-eqb}
+use mathlib.Core.Bool.{Bool, true, false, cond, _&&_}
 use mathlib.Core.List.{List, [], _∷_}
 use mathlib.Core.Logic.{_↔_}
 use mathlib.Core.Path.{_≡_, refl, sym, ap, subst, _∙_}
 use Prim.Native.Nat.{ℕ, zero, suc, _+_, _^_, _≤_, _<_}
 use native.Mathlib.Omega.{arith}
-use lib.Dec.{T, eqb, leb}
+use lib.Dec.{T, eqb}
 use lib.IntN.{ℤ, natAbs}
 use lib.ListN.{length, getD}
 use Rattle.arguments.specs.declared.Multipliers.{Multipliers}
 use Rattle.choices.specs.declared.LoveModel.{LoveModel}
 use Rattle.choices.specs.declared.PermanentSystem.{PermanentSystem}
 use Rattle.doodson.specs.Doodson.{writable, readDoodson, writeDoodson}
-use Rattle.limits.specs.Limits.{isDoodson, isEntry}
+use Rattle.field.specs.Field.{shaped, everyInRange, fieldRefusal}
+use Rattle.limits.specs.Limits.{isDoodson, isEntry, isSelection}
 use Rattle.lines.specs.Lines.{Printed, Found, nowhere, printed, lineAt, soughtFrom, findLine}
 use Rattle.permanent.specs.Systems.{movedC20}
 use Rattle.refusals.specs.Told.{Told, toldNumber}
 use Rattle.refusals.specs.Told.Told.{accepted, refused}
+use Rattle.refusals.specs.Outcome.{firstOf}
+use Rattle.refusals.proofs.Outcomes.{first-kept, first-passed}
+use Rattle.selection.specs.Selection.{selectionRefusal}
+use Rattle.surfgimlet.specs.Calls.{stepTwoRefusal}
 
 clash : {X : Type 0} → true ≡ false → X
 clash e = absurd (subst T e tt)
@@ -93,3 +98,23 @@ module _ (number : ℕ) where
           → (number ≤ 999999) × ((i : ℕ) → i < 49 → getD printed i nowhere .number ≡ number → ⊥)
       by-test true t e = (leb-true _ _ t, not-found 0 printed e)
       by-test false t e = absurd (let z = ap toldNumber e in omega (arith, z))
+
+-- 14: "for a bit above 48, after 2"
+module _ (n : ℕ) (c s : List ℤ) (selection : ℕ) where
+  field-most : fieldRefusal n c s ≤ 2
+  unfolding fieldRefusal
+  field-most = by (shaped n c s) (everyInRange c && everyInRange s)
+    where
+      by : (a b : Bool) → cond a (cond b 0 2) 1 ≤ 2
+      by true true = omega arith
+      by true false = omega arith
+      by false b = omega arith
+
+  pub fourteen-of-step-two : stepTwoRefusal n c s selection ≡ 14 ↔ ((fieldRefusal n c s ≡ 0) × (2 ^ 49 ≤ selection))
+  unfolding stepTwoRefusal selectionRefusal
+  fourteen-of-step-two = by (fieldRefusal n c s) field-most (isSelection selection) refl
+    where
+      by : (f : ℕ) → f ≤ 2 → (b : Bool) → isSelection selection ≡ b → firstOf f (cond b 0 14) ≡ 14 ↔ ((f ≡ 0) × (2 ^ 49 ≤ selection))
+      by zero h true t = (λ e. absurd (let z : 0 ≡ 14 = sym (first-passed 0 0 refl) ∙ e in omega (arith, z)), λ k. absurd (omega (arith, ltb-true selection (2 ^ 49) t)))
+      by zero h false t = (λ e. (refl, ltb-false selection (2 ^ 49) t), λ k. first-passed 0 14 refl)
+      by (suc f) h b t = (λ e. absurd (let z : suc f ≡ 14 = sym (first-kept (suc f) (cond b 0 14) (λ q. omega arith)) ∙ e in omega (arith, z)), λ k. absurd (omega arith))

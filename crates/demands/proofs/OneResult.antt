@@ -21,9 +21,9 @@ use Rattle.lines.specs.Lines.{Found, tells as tellsSought}
 use Rattle.permanent.specs.declared.Moved.{Moved}
 use Rattle.permanent.specs.declared.Moved.the-variants as moved
 use Rattle.permanent.specs.Systems.{tells as tellsMoved}
-use Rattle.selection.specs.declared.Counted.{Counted}
-use Rattle.selection.specs.declared.Counted.the-variants as counted
-use Rattle.selection.specs.Selection.{tells as tellsCounted}
+use Rattle.selection.specs.declared.Named.{Named}
+use Rattle.selection.specs.declared.Named.the-variants as named
+use Rattle.selection.specs.Selection.{tells as tellsNamed}
 
 -- ---- step one, own lines and the ocean tide: the answer and both lists
 pub one-outcome : (o : Outcome) (a b : Answer) (c c′ s s′ : List ℤ) → Gives o (answerNumber a) c s → Gives o (answerNumber b) c′ s′ → (a ≡ b) × (c ≡ c′) × (s ≡ s′)
@@ -83,15 +83,15 @@ pub one-sought : (r q : Sought) → tellsSought r ≡ tellsSought q → r ≡ q
 one-sought = known tellsSought sought-of sought-again
 
 -- ---- step two: the answer with its count, and both lists
-counted-of : Told ℕ → Counted
-counted-of (accepted lines) = counted.Lines lines
-counted-of (refused number) = counted.Refused (refusal-of number)
+named-of : Told ℕ → Named
+named-of (accepted lines) = named.Lines lines
+named-of (refused number) = named.Refused (refusal-of number)
 
-counted-again : (r : Counted) → counted-of (tellsCounted r) ≡ r
-unfolding counted-of
-counted-again (counted.Lines lines) = refl
-counted-again (counted.Refused r) = ap counted.Refused (refusal-again r)
+named-again : (r : Named) → named-of (tellsNamed r) ≡ r
+unfolding named-of
+named-again (named.Lines lines) = refl
+named-again (named.Refused r) = ap named.Refused (refusal-again r)
 
-pub one-counted : (o : Outcome) (lines : ℕ) (a b : Counted) (c c′ s s′ : List ℤ) → GivesValue o lines (tellsCounted a) c s → GivesValue o lines (tellsCounted b) c′ s′ → (a ≡ b) × (c ≡ c′) × (s ≡ s′)
-one-counted o lines a b c c′ s s′ g h =
-    (known tellsCounted counted-of counted-again a b (g .answer ∙ sym (h .answer)), g .list-c ∙ sym (h .list-c), g .list-s ∙ sym (h .list-s))
+pub one-named : (o : Outcome) (lines : ℕ) (a b : Named) (c c′ s s′ : List ℤ) → GivesValue o lines (tellsNamed a) c s → GivesValue o lines (tellsNamed b) c′ s′ → (a ≡ b) × (c ≡ c′) × (s ≡ s′)
+one-named o lines a b c c′ s s′ g h =
+    (known tellsNamed named-of named-again a b (g .answer ∙ sym (h .answer)), g .list-c ∙ sym (h .list-c), g .list-s ∙ sym (h .list-s))

@@ -15,7 +15,7 @@ use Rattle.own.specs.declared.OwnLine.{OwnLine}
 use Rattle.own.specs.Own.{multipliersOf, bandOf, lineOf, inRange, recordAt, recordsRefusal, ownPhase, ownSum, ownCorrections}
 use Rattle.refusals.proofs.Outcomes.{first-alone}
 use Rattle.selection.specs.Selection.{allLines}
-use Rattle.selection.proofs.Named.{profiles}
+use Rattle.selection.proofs.Laws.{profiles}
 use Rattle.step_two.specs.StepTwo.{selectedSum, corrections}
 use Rattle.step_two.proofs.Unused.{all-lines-sum}
 use Rattle.surfgimlet.specs.Calls.{stepTwoRefusal, stepTwo, ownLinesRefusal, ownLines}

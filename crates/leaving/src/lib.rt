@@ -3,14 +3,14 @@
 ghost use Rattle.doodson.specs.Doodson.{tellsRead, tellsWritten};
 ghost use Rattle.lines.specs.Lines.{tells as tellsSought};
 ghost use Rattle.permanent.specs.Systems.{tells as tellsMoved};
-ghost use Rattle.selection.specs.Selection.{tells as tellsCounted};
+ghost use Rattle.selection.specs.Selection.{tells as tellsNamed};
 ghost use Rattle.leaving.specs.Leaving.{listedOf, found, Leaves};
 use doodson::Read;
 use doodson::Written;
 use lines::Sought;
 use permanent::Moved;
 use refusals::refusal_number;
-use selection::Counted;
+use selection::Named;
 
 pub fn leave_moved(told: Moved, moved: &mut i64) -> u32
     ensures { λ r. ⌜ Leaves (tellsMoved told) (now (moved .entry)) r (now (moved .exit)) ⌝ }
@@ -24,15 +24,15 @@ pub fn leave_moved(told: Moved, moved: &mut i64) -> u32
     }
 }
 
-pub fn leave_count(told: Counted, lines: &mut u32) -> u32
-    ensures { λ r. ⌜ Leaves (tellsCounted told) (now (lines .entry)) r (now (lines .exit)) ⌝ }
+pub fn leave_named(told: Named, lines: &mut u32) -> u32
+    ensures { λ r. ⌜ Leaves (tellsNamed told) (now (lines .entry)) r (now (lines .exit)) ⌝ }
 {
     match told {
-        Counted::Lines(count) => {
-            *lines = count;
+        Named::Lines(named) => {
+            *lines = named;
             0
         }
-        Counted::Refused(why) => refusal_number(why),
+        Named::Refused(why) => refusal_number(why),
     }
 }
 

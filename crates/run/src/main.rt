@@ -19,7 +19,7 @@ use replay::read_u8;
 use replay::read_u32;
 use replay::write_next;
 use replay::write_number;
-use selection::Counted;
+use selection::Named;
 
 // Room for the longest list of a case, which is of degree 60.
 const ROOM: usize = 2048;
@@ -164,11 +164,11 @@ fn step_two(n: u32, c: &mut [i64], s: &mut [i64]) {
     let phases = replay::read_phases();
     let selection = replay::read_u64();
     match surfgimlet::step_two(n, c, s, phases, love, selection) {
-        Counted::Lines(lines) => {
+        Named::Lines(lines) => {
             write_number(0);
             write_next(lines as i64);
         }
-        Counted::Refused(refusal) => write_refused(refusal),
+        Named::Refused(refusal) => write_refused(refusal),
     }
 }
 

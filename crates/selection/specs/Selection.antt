@@ -13,8 +13,8 @@ use Rattle.refusals.specs.Numbers.{refusalNumber}
 use Rattle.refusals.specs.Told.{Told}
 use Rattle.refusals.specs.Told.Told.{accepted, refused}
 use Rattle.whole.specs.Sum.{countTo}
-use Rattle.selection.specs.declared.Counted.{Counted}
-use Rattle.selection.specs.declared.Counted.the-variants.{Lines, Refused}
+use Rattle.selection.specs.declared.Named.{Named}
+use Rattle.selection.specs.declared.Named.the-variants.{Lines, Refused}
 
 -- "A selection is a 64-bit number whose bit i stands for line i"
 unfoldable pub names : ℕ → ℕ → Bool
@@ -28,12 +28,12 @@ linesNamed selection = countTo (names selection) 49
 unfoldable pub selectionRefusal : ℕ → ℕ
 selectionRefusal selection = cond (isSelection selection) 0 14
 
--- "adds the lines named there only": a line that is not named has no amplitudes
-abbrev pub unnamed : Line → Line
-unnamed line = record { band = line .band; ip = pos 0; op = pos 0 }
+-- "adds the lines named there only": of a line that is not named each amplitude is 0
+abbrev pub withoutAmplitudes : Line → Line
+withoutAmplitudes line = record { band = line .band; ip = pos 0; op = pos 0 }
 
 unfoldable pub selectedLine : LoveModel → ℕ → ℕ → Line
-selectedLine love selection i = cond (names selection i) (printedLine love i) (unnamed (printedLine love i))
+selectedLine love selection i = cond (names selection i) (printedLine love i) (withoutAmplitudes (printedLine love i))
 
 -- the bits of the first n lines that are among those chosen
 unfoldable pub bitsTo : (ℕ → Bool) → ℕ → ℕ
@@ -55,6 +55,6 @@ unfoldable pub majorLines : ℕ
 majorLines = bitsTo (λ i. atLeastTen (printedLine Anelastic i)) 49
 
 -- the number and the value of each answer
-abbrev pub tells : Counted → Told ℕ
+abbrev pub tells : Named → Told ℕ
 tells (Lines n) = accepted n
 tells (Refused r) = refused (refusalNumber r)

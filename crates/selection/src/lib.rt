@@ -11,7 +11,7 @@ const ALL_LINES: u64 = 0x1ffffffffffff;
 const MAJOR_LINES: u64 = 0x10984342ff498;
 
 // The answer of a call that takes a selection.
-pub enum Counted {
+pub enum Named {
     // How many lines the selection names.
     Lines(u32),
     Refused(Refusal),

@@ -14,7 +14,7 @@ use Rattle.bands.proofs.Sizes.{corrections-small as lines-small}
 use Rattle.choices.specs.declared.LoveModel.{LoveModel}
 use Rattle.lines.specs.Lines.{linePhase, printedLine}
 use Rattle.lines.proofs.Table.{printed-small}
-use Rattle.selection.specs.Selection.{names, unnamed, selectedLine}
+use Rattle.selection.specs.Selection.{names, withoutAmplitudes, selectedLine}
 use Rattle.wave.specs.Wave.{sin, cos}
 use Rattle.wave.proofs.Size.{sin-size, cos-size}
 use Rattle.whole.proofs.Machine.{back}
@@ -44,7 +44,7 @@ pub selected-light : (love : LoveModel) (selection i : ℕ) → Light 472000 (se
 unfolding selectedLine
 selected-light love selection i = by (names selection i)
   where
-    by : (b : Bool) → Light 472000 (cond b (printedLine love i) (unnamed (printedLine love i)))
+    by : (b : Bool) → Light 472000 (cond b (printedLine love i) (withoutAmplitudes (printedLine love i)))
     by true = printed-light love i
     by false = record { ip = omega arith; op = omega arith }
 

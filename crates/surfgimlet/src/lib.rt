@@ -10,7 +10,7 @@ ghost use Rattle.lines.specs.Lines.{findLine, tells as tellsSought};
 ghost use Rattle.permanent.specs.Systems.{movedC20, tells as tellsMoved};
 ghost use Rattle.refusals.specs.Numbers.{answerNumber};
 ghost use Rattle.refusals.specs.Outcome.{Gives, GivesValue, firstOf};
-ghost use Rattle.selection.specs.Selection.{linesNamed, allLines, majorLines, tells as tellsCounted};
+ghost use Rattle.selection.specs.Selection.{linesNamed, allLines, majorLines, tells as tellsNamed};
 ghost use Rattle.surfgimlet.specs.Calls.{forC, forS, placesC, placesS, fiveCorrected, stepOne, stepTwo, ownLines, oceanTide};
 ghost use Rattle.surfgimlet.specs.Inner.{FiveReady};
 use arguments::Multipliers;
@@ -27,7 +27,7 @@ use own::OwnLine;
 use own::Summed;
 use permanent::Moved;
 use refusals::Answer;
-use selection::Counted;
+use selection::Named;
 
 // The places (2,0) and (2,1); those that follow are the next ones in the list.
 const PLACE_20: usize = 3;
@@ -96,16 +96,16 @@ pub fn step_two(
     phases: Phases,
     love: LoveModel,
     selection: u64,
-) -> Counted
-    ensures { λ r. ⌜ GivesValue (stepTwo n (now (c .entry)) (now (s .entry)) phases love selection) (linesNamed selection) (tellsCounted r) (now (c .exit)) (now (s .exit)) ⌝ }
+) -> Named
+    ensures { λ r. ⌜ GivesValue (stepTwo n (now (c .entry)) (now (s .entry)) phases love selection) (linesNamed selection) (tellsNamed r) (now (c .exit)) (now (s .exit)) ⌝ }
 {
     let chosen = selection::tested(selection);
     match refusals::first_of(field::tested(n, c, s), chosen) {
         Answer::Accepted => {
             add_five(c, s, step_two::corrections_of(phases, love, selection));
-            Counted::Lines(selection::lines_named(selection))
+            Named::Lines(selection::lines_named(selection))
         }
-        Answer::Refused(why) => Counted::Refused(why),
+        Answer::Refused(why) => Named::Refused(why),
     }
 }
 

@@ -11,7 +11,7 @@ returns c =
     let t = c .before .before .before .before in
     let k = t .before .before .before in
     rw (step-two-named _ _ _ _ _ _ (k .love-of .result) (sym (k .before .before .is-love .ensures) ∙ k .before .if1 .taken) (k .love-of .ensures))
-    (told-and-left (t .step-two .ensures) (c .leave-count .ensures))
+    (told-and-left (t .step-two .ensures) (c .leave-named .ensures))
 
 returns-2 : tie.Need-returns-2
 unfolding toldUnless

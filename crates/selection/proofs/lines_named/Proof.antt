@@ -1,5 +1,5 @@
 -- The count of ones is the number of lines named.
-use Rattle.selection.proofs.Named.{lines-counted}
+use Rattle.selection.proofs.Laws.{lines-counted}
 use Rattle.selection.proofs.lines_named.Statement.{statement}
 use Rattle.selection.proofs.lines_named.Tie as tie
 
