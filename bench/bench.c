@@ -20,13 +20,14 @@ static surfgimlet_phases phases = {123456789, 2345678901u, 3456789012u, 45678901
 static surfgimlet_body moon = {SURFGIMLET_DIRECTION, 0.0123, 0.6, 0.48, 0.64, 3.8e8};
 static surfgimlet_body sun = {SURFGIMLET_RECTANGULAR, 332946, 9e10, 7.2e10, -9.6e10, 1.5e11};
 static double radians[6];
+static uint64_t selection;
 static surfgimlet_own_line lines[70];
 static size_t lines_length;
 static uint8_t sheet[70000];
 static size_t length;
 static int64_t c[SIZE], s[SIZE];
 static double cd[SIZE], sd[SIZE];
-static uint32_t answer;
+static uint32_t answer, named;
 
 /* ---- the ways */
 
@@ -57,13 +58,13 @@ static void call(int what, int by)
     size_t size = size_of(n);
     if (by == DOUBLES) {
         if (what == STEP_ONE) doubles_step_one(cd, sd, moon, sun, choice);
-        else if (what == STEP_TWO) doubles_step_two(cd, sd, radians, choice);
+        else if (what == STEP_TWO) doubles_step_two(cd, sd, radians, choice, selection);
         else if (what == OWN) answer = doubles_own_lines(cd, sd, lines, lines_length, radians);
         else answer = doubles_ocean_tide(n, cd, sd, sheet, length, radians, choice);
     } else if (what == STEP_ONE) {
         answer = ways[by].one(n, c, size, s, size, moon, sun, choice);
     } else if (what == STEP_TWO) {
-        answer = ways[by].two(n, c, size, s, size, phases, choice);
+        answer = ways[by].two(n, c, size, s, size, phases, choice, selection, &named);
     } else if (what == OWN) {
         answer = ways[by].own(n, c, size, s, size, lines, lines_length, phases);
     } else {
@@ -109,6 +110,25 @@ static void spoil(surfgimlet_own_line *line)
     uint64_t which = any(8);
     if (which < 6) *field[which] = narrow[any(9)];
     else *(which == 6 ? &line->ip : &line->op) = wide[any(8)];
+}
+
+/* the selection that names so many: all 49, or the 21 major ones */
+static void make_selection(int count) { selection = count == 49 ? surfgimlet_all_lines() : surfgimlet_major_lines(); }
+
+/* all lines, all that the elastic model uses and others, the major ones, most, half, a quarter, one, few or none */
+static uint64_t any_selection(void)
+{
+    uint64_t all = surfgimlet_all_lines(), long_period = (UINT64_C(1) << 47) - (UINT64_C(1) << 26), half = any(all + 1), other = any(all + 1);
+    switch (any(8)) {
+    case 0: return all;
+    case 1: return half | (all ^ long_period);
+    case 2: return surfgimlet_major_lines();
+    case 3: return half | other;
+    case 4: return half;
+    case 5: return half & other;
+    case 6: return UINT64_C(1) << any(49);
+    default: return half & other & any(all + 1) & any(all + 1);
+    }
 }
 
 /* places from (1,0) on, so that 90 reach degree 12, 30 degree 7 and 6 degree 3 */
@@ -185,28 +205,32 @@ static long earlier_differs;
 static void hold(int what)
 {
     static int64_t c_before[SIZE], s_before[SIZE], c_unit[SIZE], s_unit[SIZE];
-    uint32_t unit;
+    uint32_t unit, named_before = (uint32_t)any(UINT64_C(1) << 32), named_unit;
     memcpy(c_before, c, sizeof c);
     memcpy(s_before, s, sizeof s);
+    named = named_before;
     call(what, 0);
     unit = answer;
+    named_unit = named;
     memcpy(c_unit, c, sizeof c);
     memcpy(s_unit, s, sizeof s);
     for (int by = 1; by < WAYS; by++) {
         memcpy(c, c_before, sizeof c);
         memcpy(s, s_before, sizeof s);
+        named = named_before;
         call(what, by);
-        if (answer == unit && !memcmp(c, c_unit, sizeof c) && !memcmp(s, s_unit, sizeof s)) continue;
+        if (answer == unit && named == named_unit && !memcmp(c, c_unit, sizeof c) && !memcmp(s, s_unit, sizeof s)) continue;
         if (by == EARLIER) {
             earlier_differs++;
         } else {
-            printf("best.c by %s differs from the unit: call %d, N = %u, choice %u, answers %u and %u\n", ways[by].name, what, n, choice, answer, unit);
+            printf("best.c by %s differs from the unit: call %d, N = %u, choice %u, selection %#llx, answers %u and %u, lines %u and %u\n",
+                   ways[by].name, what, n, choice, (unsigned long long)selection, answer, unit, named, named_unit);
             exit(1);
         }
     }
 }
 
-/* accepted calls, and calls with one thing at fault: an entry, a float, the Moon's mass, a byte of the sheet, its length, N, a record */
+/* accepted calls, and calls with one thing at fault: an entry, a float, the Moon's mass, a byte of the sheet, its length, N, a record, the selection */
 static void hold_all(void)
 {
     static const uint32_t degrees[6] = {4, 12, 60, 7, 3, 61};
@@ -224,18 +248,20 @@ static void hold_all(void)
         sun = any_body(any(20) ? 332946 : 1e5, any(20) ? 1.4e11 : 1e8, 1.5e11);
         if (what == OCEAN) make_sheet(1 + (int)any(8), 1 + (int)any(4), (int)any(16));
         if (what == OWN) make_lines(any(8) ? (int)any(65) : 60 + (int)any(11));
+        if (what == STEP_TWO) selection = any_selection();
         if (fault == 0) (any(2) ? c : s)[any(size_of(4))] = (any(2) ? edge : -edge) + within(1);
         if (fault == 1) *(&(any(2) ? &moon : &sun)->ratio + any(5)) = any(4) ? floats[any(8)] : any(2) ? NAN : INFINITY;
         if (fault == 2) sheet[any(length + 1)] = (uint8_t)any(256);
         if (fault == 3) length += (size_t)within(1);
         if (fault == 4) moon = any_body((double)(100000 + any(900001)), 1e8, 1.5e8);
         if (fault == 5 && lines_length) spoil(&lines[any(lines_length)]);
+        if (fault == 6) selection |= UINT64_C(1) << (49 + any(15));
         hold(what);
         refused[answer]++;
     }
-    printf("best.c: the unit's answers and counts on %d calls; answered", CALLS);
+    printf("best.c: the unit's answers, counts and numbers of lines on %d calls; answered", CALLS);
     for (int i = 0; i <= 100; i++) if (refused[i]) printf(" %d: %ld", i, refused[i]);
-    if (EARLIER < WAYS) printf("\nthe earlier archive: other answers or counts than the unit's on %ld of them", earlier_differs);
+    if (EARLIER < WAYS) printf("\nthe earlier archive: other answers, counts or numbers of lines than the unit's on %ld of them", earlier_differs);
     puts("\n");
 }
 
@@ -277,7 +303,7 @@ static double best_c(const double *best, const char **by)
 
 typedef struct { const char *name; int what; int lines, tides, places; uint32_t n, choice; double of_c, of_doubles; int epochs; } row;
 
-/* of_c and of_doubles are the ratios to reach, 0 where none is set */
+/* lines are a sheet's, own ones, or those that step two's selection names; of_c and of_doubles are the ratios to reach, 0 where none is set */
 static const row rows[] = {
     {"ocean 128/32/90", OCEAN, 128, 32, 90, 12, 0, 1.10, 0.90, ONE},
     {"ocean 128/32/90", OCEAN, 128, 32, 90, 60, 0, 1.10, 0, ONE},
@@ -287,14 +313,15 @@ static const row rows[] = {
     {"ocean 8/2/6", OCEAN, 8, 2, 6, 4, 0, 0, 0, ONE},
     {"ocean 8/2/6", OCEAN, 8, 2, 6, 12, 0, 1.25, 0, ONE},
     {"ocean 8/2/6", OCEAN, 8, 2, 6, 60, 0, 0, 0, ONE},
-    {"step two, anelastic", STEP_TWO, 0, 0, 0, 4, 1, 1.35, 0, ONE},
-    {"step two, anelastic", STEP_TWO, 0, 0, 0, 12, 1, 1.35, 0.95, ONE},
-    {"step two, anelastic", STEP_TWO, 0, 0, 0, 60, 1, 1.20, 0, ONE},
-    {"step two, anelastic, along an arc", STEP_TWO, 0, 0, 0, 4, 1, 0, 0, ARC},
-    {"step two, anelastic, at random", STEP_TWO, 0, 0, 0, 4, 1, 0, 0, RANDOM},
-    {"step two, elastic", STEP_TWO, 0, 0, 0, 4, 0, 1.35, 0, ONE},
-    {"step two, elastic", STEP_TWO, 0, 0, 0, 12, 0, 1.35, 0, ONE},
-    {"step two, elastic", STEP_TWO, 0, 0, 0, 60, 0, 0, 0, ONE},
+    {"step two, anelastic", STEP_TWO, 49, 0, 0, 4, 1, 1.35, 0, ONE},
+    {"step two, anelastic", STEP_TWO, 49, 0, 0, 12, 1, 1.35, 0.95, ONE},
+    {"step two, anelastic", STEP_TWO, 49, 0, 0, 60, 1, 1.20, 0, ONE},
+    {"step two, anelastic, along an arc", STEP_TWO, 49, 0, 0, 4, 1, 0, 0, ARC},
+    {"step two, anelastic, at random", STEP_TWO, 49, 0, 0, 4, 1, 0, 0, RANDOM},
+    {"step two, anelastic, major lines", STEP_TWO, 21, 0, 0, 12, 1, 0, 0, ONE},
+    {"step two, elastic", STEP_TWO, 49, 0, 0, 4, 0, 1.35, 0, ONE},
+    {"step two, elastic", STEP_TWO, 49, 0, 0, 12, 0, 1.35, 0, ONE},
+    {"step two, elastic", STEP_TWO, 49, 0, 0, 60, 0, 0, 0, ONE},
     {"own lines 64", OWN, 64, 0, 0, 12, 0, 0, 0, ONE},
     {"own lines 64", OWN, 64, 0, 0, 60, 0, 0, 0, ONE},
     {"step one, anelastic", STEP_ONE, 0, 0, 0, 4, 1, 1.10, 0, ONE},
@@ -321,6 +348,7 @@ static void compare(const row *r)
     choice = r->choice;
     if (r->what == OCEAN) make_sheet(r->lines, r->tides, r->places);
     if (r->what == OWN) make_lines(r->lines);
+    if (r->what == STEP_TWO) make_selection(r->lines);
     make_epochs(r->epochs);
     memset(c, 0, sizeof c);
     memset(s, 0, sizeof s);
@@ -348,6 +376,7 @@ static void grow(const char *what, int kind, const int sizes[4][4], int part)
             n = (uint32_t)sizes[i][3];
             if (kind == OCEAN) make_sheet(sizes[i][0], sizes[i][1], sizes[i][2]);
             if (kind == OWN) make_lines(sizes[i][0]);
+            if (kind == STEP_TWO) make_selection(sizes[i][0]);
             for (int by = 0; by < WAYS; by++) time_once(kind, by, &best[i][by]);
         }
     more = part < 3 ? sizes[3][part] - sizes[0][part] : 2.0 * (double)(size_of((uint32_t)sizes[3][3]) - size_of((uint32_t)sizes[0][3]));
@@ -363,7 +392,7 @@ int main(void)
     static const int by_tide[4][4] = {{64, 4, 30, 12}, {64, 8, 30, 12}, {64, 16, 30, 12}, {64, 32, 30, 12}};
     static const int by_place[4][4] = {{64, 8, 0, 12}, {64, 8, 30, 12}, {64, 8, 60, 12}, {64, 8, 90, 12}};
     static const int by_own[4][4] = {{8, 0, 0, 12}, {16, 0, 0, 12}, {32, 0, 0, 12}, {64, 0, 0, 12}};
-    static const int by_entry[4][4] = {{0, 0, 0, 4}, {0, 0, 0, 12}, {0, 0, 0, 30}, {0, 0, 0, 60}};
+    static const int by_entry[4][4] = {{49, 0, 0, 4}, {49, 0, 0, 12}, {49, 0, 0, 30}, {49, 0, 0, 60}};
     doubles_prepare();
     hold_all();
     one = any_epoch();

@@ -4,7 +4,7 @@
 #include "surfgimlet.h"
 
 typedef uint32_t step_one_call(uint32_t n, int64_t *c, size_t c_length, int64_t *s, size_t s_length, surfgimlet_body moon, surfgimlet_body sun, uint32_t love);
-typedef uint32_t step_two_call(uint32_t n, int64_t *c, size_t c_length, int64_t *s, size_t s_length, surfgimlet_phases phases, uint32_t love);
+typedef uint32_t step_two_call(uint32_t n, int64_t *c, size_t c_length, int64_t *s, size_t s_length, surfgimlet_phases phases, uint32_t love, uint64_t selection, uint32_t *lines);
 typedef uint32_t own_call(uint32_t n, int64_t *c, size_t c_length, int64_t *s, size_t s_length, const surfgimlet_own_line *lines, size_t lines_length, surfgimlet_phases phases);
 typedef uint32_t ocean_call(uint32_t n, int64_t *c, size_t c_length, int64_t *s, size_t s_length, const uint8_t *sheet, size_t length, surfgimlet_phases phases, uint32_t frame);
 
@@ -14,7 +14,7 @@ step_two_call gcc_step_two, clang_step_two;
 own_call gcc_own_lines, clang_own_lines;
 ocean_call gcc_ocean_tide, clang_ocean_tide;
 
-/* the archive of an earlier commit, its names begun with earlier_ */
+/* the archive of an earlier commit, its names begun with earlier_: of version 2.0.0 or later, since step two takes a selection from there on */
 step_one_call earlier_surfgimlet_step_one;
 step_two_call earlier_surfgimlet_step_two;
 own_call earlier_surfgimlet_own_lines;
@@ -23,7 +23,7 @@ ocean_call earlier_surfgimlet_ocean_tide;
 /* doubles.c: phases in radians */
 void doubles_prepare(void);
 void doubles_step_one(double *c, double *s, surfgimlet_body moon, surfgimlet_body sun, uint32_t love);
-void doubles_step_two(double *c, double *s, const double phases[6], uint32_t love);
+void doubles_step_two(double *c, double *s, const double phases[6], uint32_t love, uint64_t selection);
 uint32_t doubles_own_lines(double *c, double *s, const surfgimlet_own_line *lines, size_t lines_length, const double phases[6]);
 uint32_t doubles_ocean_tide(uint32_t n, double *c, double *s, const uint8_t *sheet, size_t length, const double phases[6], uint32_t frame);
 

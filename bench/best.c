@@ -76,42 +76,101 @@ INLINE int64_t nearest_30(int64_t sum) { return (sum + (INT64_C(1) << 29)) >> 30
 
 /* ---- step two */
 
-uint32_t CALL(step_two)(uint32_t n, int64_t *c, size_t c_length, int64_t *s, size_t s_length, surfgimlet_phases b, uint32_t love)
+/* the lines from one index to before another, as a selection */
+#define BITS(from, to) ((ONE << (to)) - (ONE << (from)))
+
+/* the digits without the amplitudes between them, so that four can be read at once */
+#define DIGITS(digits, first, second) digits,
+static const uint32_t digits[LINES] = {PRINTED(DIGITS)};
+
+typedef struct { int64_t c20, c21, s21, c22, s22; } sums;
+
+/* every digit but the first is five too many: fives is what that comes to */
+INLINE uint32_t phase_of(uint32_t d, surfgimlet_phases b, uint32_t fives)
 {
-    uint32_t phases[LINES], sines[LINES], cosines[LINES], fives, refusal;
-    int64_t c20 = 0, c21 = 0, s21 = 0, c22 = 0, s22 = 0;
-    if (love > 1) return 100;
-    refusal = field_refusal(n, c, c_length, s, s_length);
-    if (refusal) return refusal;
-    fives = 5 * (b.s + b.h + b.p + b.np + b.ps);
-    for (int i = 0; i < LINES; i++) {
-        uint32_t d = printed[i].digits;
-        phases[i] = (d >> 20) * b.tau + (d >> 16 & 15) * b.s + (d >> 12 & 15) * b.h + (d >> 8 & 15) * b.p + (d >> 4 & 15) * b.np + (d & 15) * b.ps - fives;
-    }
+    return (d >> 20) * b.tau + (d >> 16 & 15) * b.s + (d >> 12 & 15) * b.h + (d >> 8 & 15) * b.p + (d >> 4 & 15) * b.np + (d & 15) * b.ps - fives;
+}
+
+/* all lines that the model uses: the phases four at a time, each line's wave at its own index */
+INLINE sums of_all(surfgimlet_phases b, uint32_t fives, uint32_t love)
+{
+    uint32_t phases[LINES], sines[LINES], cosines[LINES];
+    sums t = {0};
+    for (int i = 0; i < LINES; i++) phases[i] = phase_of(digits[i], b, fives);
     if (love) {
         waves(phases, LINES, sines, cosines);
         for (int i = 0; i < DIURNAL; i++) {
-            c21 += printed[i].second * wave(sines[i]);
-            s21 += printed[i].second * wave(cosines[i]);
+            t.c21 += printed[i].second * wave(sines[i]);
+            t.s21 += printed[i].second * wave(cosines[i]);
         }
-        for (int i = DIURNAL; i < SEMIDIURNAL; i++) c20 += printed[i].first * wave(cosines[i]) - printed[i].second * wave(sines[i]);
+        for (int i = DIURNAL; i < SEMIDIURNAL; i++) t.c20 += printed[i].first * wave(cosines[i]) - printed[i].second * wave(sines[i]);
     } else {
         waves(phases, DIURNAL, sines, cosines);
         waves(phases + SEMIDIURNAL, LINES - SEMIDIURNAL, sines + SEMIDIURNAL, cosines + SEMIDIURNAL);
         for (int i = 0; i < DIURNAL; i++) {
-            c21 += printed[i].first * wave(sines[i]);
-            s21 += printed[i].first * wave(cosines[i]);
+            t.c21 += printed[i].first * wave(sines[i]);
+            t.s21 += printed[i].first * wave(cosines[i]);
         }
     }
     for (int i = SEMIDIURNAL; i < LINES; i++) {
-        c22 += printed[i].first * wave(cosines[i]);
-        s22 -= printed[i].first * wave(sines[i]);
+        t.c22 += printed[i].first * wave(cosines[i]);
+        t.s22 -= printed[i].first * wave(sines[i]);
     }
-    c[3] += nearest_30(100 * c20);
-    c[4] += nearest_30(100 * c21);
-    s[4] += nearest_30(100 * s21);
-    c[5] += nearest_30(100 * c22);
-    s[5] += nearest_30(100 * s22);
+    return t;
+}
+
+/* the first line of a selection that names one, taken off it */
+INLINE int next_of(uint64_t *left)
+{
+    int i = __builtin_ctzll(*left);
+    *left &= *left - 1;
+    return i;
+}
+
+/* some of them: phases and waves of these alone, side by side in the order of the lines */
+INLINE sums of_some(surfgimlet_phases b, uint32_t fives, uint32_t love, uint64_t named)
+{
+    uint32_t phases[LINES], sines[LINES], cosines[LINES];
+    uint64_t left = named;
+    size_t count = 0, k = 0;
+    sums t = {0};
+    if (!named) return t;
+    while (left) phases[count++] = phase_of(digits[next_of(&left)], b, fives);
+    waves(phases, count, sines, cosines);
+    for (left = named & BITS(0, DIURNAL); left; k++) {
+        int i = next_of(&left);
+        int64_t amplitude = love ? printed[i].second : printed[i].first;
+        t.c21 += amplitude * wave(sines[k]);
+        t.s21 += amplitude * wave(cosines[k]);
+    }
+    for (left = named & BITS(DIURNAL, SEMIDIURNAL); left; k++) {
+        int i = next_of(&left);
+        t.c20 += printed[i].first * wave(cosines[k]) - printed[i].second * wave(sines[k]);
+    }
+    for (left = named & BITS(SEMIDIURNAL, LINES); left; k++) {
+        int i = next_of(&left);
+        t.c22 += printed[i].first * wave(cosines[k]);
+        t.s22 -= printed[i].first * wave(sines[k]);
+    }
+    return t;
+}
+
+uint32_t CALL(step_two)(uint32_t n, int64_t *c, size_t c_length, int64_t *s, size_t s_length, surfgimlet_phases b, uint32_t love, uint64_t selection,
+                        uint32_t *lines)
+{
+    uint64_t used = love ? BITS(0, LINES) : BITS(0, LINES) ^ BITS(DIURNAL, SEMIDIURNAL);
+    uint32_t fives = 5 * (b.s + b.h + b.p + b.np + b.ps), refusal;
+    sums t;
+    if (love > 1) return 100;
+    if ((refusal = field_refusal(n, c, c_length, s, s_length))) return refusal;
+    if (selection >> LINES) return 14;
+    *lines = (uint32_t)__builtin_popcountll(selection);
+    t = (selection & used) == used ? of_all(b, fives, love) : of_some(b, fives, love, selection & used);
+    c[3] += nearest_30(100 * t.c20);
+    c[4] += nearest_30(100 * t.c21);
+    s[4] += nearest_30(100 * t.s21);
+    c[5] += nearest_30(100 * t.c22);
+    s[5] += nearest_30(100 * t.s22);
     return 0;
 }
 

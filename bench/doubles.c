@@ -1,5 +1,5 @@
 /* What a user would write: a field of doubles, phases in radians, sine and cosine of the C library, nothing rounded to counts.
- * The sheet and the records of own lines are tested; the field and the bodies are taken on trust. */
+ * The sheet and the records of own lines are tested; the field, the bodies and the selection are taken on trust. */
 #include <math.h>
 #include <string.h>
 #include "bench.h"
@@ -18,12 +18,12 @@ static double angle(const double m[6], const double phases[6])
     return m[0] * phases[0] + m[1] * phases[1] + m[2] * phases[2] + m[3] * phases[3] + m[4] * phases[4] + m[5] * phases[5];
 }
 
-void doubles_step_two(double *c, double *s, const double phases[6], uint32_t love)
+void doubles_step_two(double *c, double *s, const double phases[6], uint32_t love, uint64_t selection)
 {
     double c20 = 0, c21 = 0, s21 = 0, c22 = 0, s22 = 0;
     for (int i = 0; i < LINES; i++) {
         double x, sine, cosine, first = printed[i].first * 1e-13, second = printed[i].second * 1e-13;
-        if (i >= DIURNAL && i < SEMIDIURNAL && !love) continue;
+        if (!(selection >> i & 1) || i >= DIURNAL && i < SEMIDIURNAL && !love) continue;
         x = angle(multipliers[i], phases);
         sine = sin(x);
         cosine = cos(x);
