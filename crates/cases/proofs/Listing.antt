@@ -9,7 +9,8 @@ use Rattle.choices.specs.declared.LoveModel.the-variants.{Elastic, Anelastic}
 use Rattle.doodson.specs.Doodson.{multipliersIn}
 use Rattle.lines.specs.Lines.{diurnal, longPeriod, semidiurnal, printed, lineAt, multipliersAt, bandAt, inModel, printedLine}
 use Rattle.listing.specs.Listing.{phasesOf, columns, modelText, modelsText, listingOf}
-use Rattle.selection.specs.Selection.{names, selectedLine, bitsTo, allLines}
+use Rattle.profiles.specs.Profiles.{allLines}
+use Rattle.selection.specs.Selection.{names, selected, selectionOf}
 use Rattle.step_two.specs.StepTwo.{corrections}
 use Rattle.text.specs.Text.{ascii, digits, decimal, number}
 use Rattle.wave.specs.Wave.{sin, cos, further, eighths, signed, part, folded, eighth-sine, eighth-cosine, steps, step, square, angle}
@@ -23,7 +24,7 @@ pub record Worked : Type 0 where
   pub quarter-turn : corrections (tauAlone (2 ^ 30)) Anelastic allLines ≡ counts (pos 10100) (pos 450100) (pos 0) (pos 1500) (pos 0)
 
 pub worked : Worked
-unfolding modulo phase multipliersIn diurnal longPeriod semidiurnal printed lineAt multipliersAt bandAt inModel printedLine names selectedLine bitsTo allLines ofDiurnal ofLongPeriod ofSemidiurnal ofBand term sumOf correctionOf correctionsOf corrections sin cos further eighths signed part folded eighth-sine eighth-cosine steps step square angle nearest sumTo
+unfolding modulo phase multipliersIn diurnal longPeriod semidiurnal printed lineAt multipliersAt bandAt inModel printedLine names selected selectionOf allLines ofDiurnal ofLongPeriod ofSemidiurnal ofBand term sumOf correctionOf correctionsOf corrections sin cos further eighths signed part folded eighth-sine eighth-cosine steps step square angle nearest sumTo
 worked = record { elastic = refl; anelastic = refl; quarter-turn = refl }
 
 pub zeros-listed : listingOf (replicate 24 0) ≡ ascii "model C20 C21 S21 C22 S22\nelastic 0 0 450700 -1500 0\nanelastic 10100 0 450100 -1500 0\n"

@@ -18,7 +18,7 @@ use Rattle.doodson.specs.Doodson.{readDoodson, writeDoodson}
 use Rattle.refusals.specs.Outcome.{Outcome}
 use Rattle.listing.specs.Listing.{listingOf}
 use Rattle.permanent.specs.Systems.{movedC20}
-use Rattle.selection.specs.Selection.{allLines}
+use Rattle.profiles.specs.Profiles.{allLines}
 use Rattle.sheet.specs.Accepted.{sheetRefusal}
 use Rattle.step_two.specs.StepTwo.{corrections}
 use Rattle.surfgimlet.specs.Calls.{oceanTide}

@@ -17,7 +17,8 @@ use Rattle.refusals.specs.Outcome.{firstOf, unlessRefused}
 use Rattle.field.specs.Added.{corrected, added, addedAt}
 use Rattle.step_one.proofs.Worked.{moon, sun, moon-and-sun}
 use Rattle.step_one.specs.StepOne.{places}
-use Rattle.selection.specs.Selection.{names, selectedLine, bitsTo, allLines}
+use Rattle.profiles.specs.Profiles.{allLines}
+use Rattle.selection.specs.Selection.{names, selected, selectionOf}
 use Rattle.step_two.specs.StepTwo.{corrections}
 use Rattle.wave.specs.Wave.{sin, cos, further, eighths, signed, part, folded, eighth-sine, eighth-cosine, steps, step, square, angle}
 use Rattle.whole.specs.Nearest.{nearest}
@@ -84,6 +85,6 @@ day-counts Elastic = record { c20 = pos 0; c21 = pos 428117; s21 = pos 334941; c
 day-counts Anelastic = record { c20 = negℤ (pos 53); c21 = pos 427078; s21 = pos 333684; c22 = negℤ (pos 787); s22 = pos 696 }
 
 pub step-two-on-a-day : (love : LoveModel) → corrections day love allLines ≡ day-counts love
-unfolding modulo phase multipliersIn diurnal longPeriod semidiurnal printed lineAt multipliersAt bandAt inModel printedLine names selectedLine bitsTo allLines ofDiurnal ofLongPeriod ofSemidiurnal ofBand term sumOf correctionOf correctionsOf corrections sin cos further eighths signed part folded eighth-sine eighth-cosine steps step square angle nearest sumTo
+unfolding modulo phase multipliersIn diurnal longPeriod semidiurnal printed lineAt multipliersAt bandAt inModel printedLine names selected selectionOf allLines ofDiurnal ofLongPeriod ofSemidiurnal ofBand term sumOf correctionOf correctionsOf corrections sin cos further eighths signed part folded eighth-sine eighth-cosine steps step square angle nearest sumTo
 step-two-on-a-day Elastic = refl
 step-two-on-a-day Anelastic = refl

@@ -1,4 +1,5 @@
--- One rule for printed and own lines: the printed lines lent as records, with the table's numbers, are step two in the anelastic model.
+-- All lines selected are step two without a selection. And one rule for printed and own lines: the printed lines lent as records, with the table's
+-- numbers, are step two of all lines in the anelastic model.
 use mathlib.Core.List.{List, [], _∷_, map, _++_}
 use mathlib.Core.Path.{_≡_, refl, sym, ap, _∙_}
 use Prim.Native.Nat.{ℕ, zero, suc, _<_}
@@ -7,6 +8,7 @@ use lib.IntN.{ℤ, pos}
 use lib.ListN.{getD}
 use Rattle.arguments.specs.declared.Phases.{Phases}
 use Rattle.bands.specs.Bands.{Coefficient, C20, C21, S21, C22, S22, term, sumOf, correctionsOf}
+use Rattle.choices.specs.declared.LoveModel.{LoveModel}
 use Rattle.choices.specs.declared.LoveModel.the-variants.{Anelastic}
 use Rattle.doodson.specs.Doodson.{multipliersIn}
 use Rattle.field.specs.Field.{fieldRefusal}
@@ -14,10 +16,10 @@ use Rattle.lines.specs.Lines.{Printed, diurnal, longPeriod, semidiurnal, printe
 use Rattle.own.specs.declared.OwnLine.{OwnLine}
 use Rattle.own.specs.Own.{multipliersOf, bandOf, lineOf, inRange, recordAt, recordsRefusal, ownPhase, ownSum, ownCorrections}
 use Rattle.refusals.proofs.Outcomes.{first-alone}
-use Rattle.selection.specs.Selection.{allLines}
-use Rattle.selection.proofs.Laws.{profiles}
-use Rattle.step_two.specs.StepTwo.{selectedSum, corrections}
-use Rattle.step_two.proofs.Unused.{all-lines-sum}
+use Rattle.profiles.specs.Profiles.{allLines}
+use Rattle.profiles.proofs.Laws.{all-selected, profiles}
+use Rattle.selection.specs.Selection.{selected}
+use Rattle.step_two.specs.StepTwo.{printedSum, selectedSum, corrections}
 use Rattle.surfgimlet.specs.Calls.{stepTwoRefusal, stepTwo, ownLinesRefusal, ownLines}
 use Rattle.wave.specs.Wave.{sin, cos}
 use Rattle.whole.proofs.Sums.{sum-same}
@@ -57,6 +59,13 @@ same-line = agree (λ i. lineOf (recordAt printedAsOwn i)) (printedLine Anelasti
 same-multipliers : (i : ℕ) → i < 49 → multipliersOf (recordAt printedAsOwn i) ≡ multipliersAt i
 unfolding listed printedAsOwn multipliersIn multipliersOf multipliersAt lineAt printed diurnal longPeriod semidiurnal
 same-multipliers = agree (λ i. multipliersOf (recordAt printedAsOwn i)) multipliersAt 49 refl
+
+-- all lines selected: the sums without a selection
+pub all-lines-sum : (S C : ℕ → ℤ) (phases : Phases) (love : LoveModel) (k : Coefficient) → selectedSum S C phases love allLines k ≡ printedSum S C phases love k
+unfolding sumOf
+all-lines-sum S C phases love k =
+    sum-same (λ i. term k (selected allLines (printedLine love) i) (C (linePhase phases i)) (S (linePhase phases i))) (λ i. term k (printedLine love i) (C (linePhase phases i)) (S (linePhase phases i))) 49
+    (λ i l. rw (all-selected (printedLine love) i l) refl)
 
 same-sum : (phases : Phases) (k : Coefficient) → ownSum sin cos phases printedAsOwn k ≡ selectedSum sin cos phases Anelastic allLines k
 unfolding sumOf printedAsOwn diurnal longPeriod semidiurnal

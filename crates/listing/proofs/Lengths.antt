@@ -13,7 +13,7 @@ use Rattle.arguments.specs.declared.Phases.{Phases}
 use Rattle.bands.specs.declared.Corrections.{Corrections}
 use Rattle.bands.specs.Inner.{Small}
 use Rattle.choices.specs.declared.LoveModel.the-variants.{Elastic, Anelastic}
-use Rattle.selection.specs.Selection.{allLines}
+use Rattle.profiles.specs.Profiles.{allLines}
 use Rattle.step_two.proofs.Sizes.{corrections-small}
 use Rattle.text.specs.Inner.{Put}
 use Rattle.text.specs.Text.{ascii}

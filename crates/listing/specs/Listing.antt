@@ -9,7 +9,7 @@ use lib.ListN.{length, drop}
 use Rattle.arguments.specs.declared.Phases.{Phases}
 use Rattle.bands.specs.declared.Corrections.{Corrections}
 use Rattle.choices.specs.declared.LoveModel.the-variants.{Elastic, Anelastic}
-use Rattle.selection.specs.Selection.{allLines}
+use Rattle.profiles.specs.Profiles.{allLines}
 use Rattle.step_two.specs.StepTwo.{corrections}
 use Rattle.text.specs.Text.{ascii, number}
 use Rattle.words.specs.Words.{wordAt}

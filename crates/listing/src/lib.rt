@@ -38,7 +38,7 @@ fn put_models(out: &mut [u8], phases: Phases) -> usize
     requires { ⌜ 256 ≤ length (now out) ⌝ }
     ensures { λ r. ⌜ Put (now (out .entry)) 0 (modelsText phases) (now (out .exit)) r ⌝ }
 {
-    let lines = selection::all_lines();
+    let lines = profiles::all_lines();
     let at = text::put_word(out, 0, b"model C20 C21 S21 C22 S22\n");
     let at = put_model(
         out,

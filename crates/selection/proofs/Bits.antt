@@ -11,7 +11,7 @@ use lib.Count.{ones, ones-step}
 use lib.Dec.{eqb}
 use lib.Pow.{pow-mono, shr-shr}
 use Rattle.whole.specs.Sum.{countTo}
-use Rattle.selection.specs.Selection.{names, bitsTo}
+use Rattle.selection.specs.Selection.{names, selectionOf}
 
 -- ---- one bit and the rest
 abbrev bit : Bool → ℕ
@@ -64,8 +64,8 @@ ones-counted (suc k) n h =
     ∙ sym (count-first (names n) k)
 
 -- ---- a number made of bits
-bits-first : (chosen : ℕ → Bool) (n : ℕ) → bitsTo chosen (suc n) ≡ bit (chosen 0) + bitsTo (λ i. chosen (suc i)) n * 2
-unfolding bitsTo
+bits-first : (chosen : ℕ → Bool) (n : ℕ) → selectionOf chosen (suc n) ≡ bit (chosen 0) + selectionOf (λ i. chosen (suc i)) n * 2
+unfolding selectionOf
 bits-first chosen zero = by (chosen 0)
   where
     by : (b : Bool) → 0 + cond b (2 ^ 0) 0 ≡ bit b + 0 * 2
@@ -73,21 +73,21 @@ bits-first chosen zero = by (chosen 0)
     by false = refl
 bits-first chosen (suc n) = ap (λ (x : ℕ). x + cond (chosen (suc n)) (2 ^ suc n) 0) (bits-first chosen n) ∙ by (chosen (suc n))
   where
-    by : (b : Bool) → bit (chosen 0) + bitsTo (λ i. chosen (suc i)) n * 2 + cond b (2 ^ suc n) 0 ≡ bit (chosen 0) + (bitsTo (λ i. chosen (suc i)) n + cond b (2 ^ n) 0) * 2
+    by : (b : Bool) → bit (chosen 0) + selectionOf (λ i. chosen (suc i)) n * 2 + cond b (2 ^ suc n) 0 ≡ bit (chosen 0) + (selectionOf (λ i. chosen (suc i)) n + cond b (2 ^ n) 0) * 2
     by true = omega (arith, pow-suc 2 n)
     by false = omega arith
 
-pub made-of : (chosen : ℕ → Bool) (n i : ℕ) → i < n → names (bitsTo chosen n) i ≡ chosen i
+pub made-of : (chosen : ℕ → Bool) (n i : ℕ) → i < n → names (selectionOf chosen n) i ≡ chosen i
 unfolding names
 made-of chosen zero i h = absurd (omega arith)
 made-of chosen (suc n) zero h =
-    let m = bitsTo (λ i. chosen (suc i)) n in
-    ap (λ (x : ℕ). eqb (x % 2) 1) (div-one (bitsTo chosen (suc n)) ∙ bits-first chosen n)
+    let m = selectionOf (λ i. chosen (suc i)) n in
+    ap (λ (x : ℕ). eqb (x % 2) 1) (div-one (selectionOf chosen (suc n)) ∙ bits-first chosen n)
     ∙ ap (λ (x : ℕ). eqb x 1) (let r : (bit (chosen 0) + m * 2) % 2 ≡ bit (chosen 0) = omega (arith, bit-most (chosen 0)) in r)
     ∙ is-bit (chosen 0)
 made-of chosen (suc n) (suc i) h =
-    let m = bitsTo (λ i. chosen (suc i)) n in
-    above-lowest (bitsTo chosen (suc n)) i
+    let m = selectionOf (λ i. chosen (suc i)) n in
+    above-lowest (selectionOf chosen (suc n)) i
     ∙ ap (λ (x : ℕ). names x i) (ap (λ (x : ℕ). x / 2) (bits-first chosen n) ∙ (let q : (bit (chosen 0) + m * 2) / 2 ≡ m = omega (arith, bit-most (chosen 0)) in q))
     ∙ made-of (λ i. chosen (suc i)) n i (omega arith)
 

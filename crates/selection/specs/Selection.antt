@@ -1,14 +1,10 @@
 -- Document 02, T-04, "Choosing which lines are used".
-use mathlib.Core.Bool.{Bool, true, cond, _||_}
+use mathlib.Core.Bool.{Bool, cond}
 use Prim.Native.Nat.{ℕ, zero, suc, _+_, _/_, _%_, _^_}
-use lib.Dec.{eqb, leb}
-use lib.IntN.{pos, natAbs}
+use lib.Dec.{eqb}
+use lib.IntN.{pos}
 use Rattle.bands.specs.declared.Line.{Line}
-use Rattle.bands.specs.Bands.{inCounts}
-use Rattle.choices.specs.declared.LoveModel.{LoveModel}
-use Rattle.choices.specs.declared.LoveModel.the-variants.{Anelastic}
 use Rattle.limits.specs.Limits.{isSelection}
-use Rattle.lines.specs.Lines.{printedLine}
 use Rattle.refusals.specs.Numbers.{refusalNumber}
 use Rattle.refusals.specs.Told.{Told}
 use Rattle.refusals.specs.Told.Told.{accepted, refused}
@@ -32,27 +28,14 @@ selectionRefusal selection = cond (isSelection selection) 0 14
 abbrev pub withoutAmplitudes : Line → Line
 withoutAmplitudes line = record { band = line .band; ip = pos 0; op = pos 0 }
 
-unfoldable pub selectedLine : LoveModel → ℕ → ℕ → Line
-selectedLine love selection i = cond (names selection i) (printedLine love i) (withoutAmplitudes (printedLine love i))
+-- of given lines, those that a selection names
+unfoldable pub selected : ℕ → (ℕ → Line) → ℕ → Line
+selected selection lines i = cond (names selection i) (lines i) (withoutAmplitudes (lines i))
 
--- the bits of the first n lines that are among those chosen
-unfoldable pub bitsTo : (ℕ → Bool) → ℕ → ℕ
-bitsTo chosen zero = 0
-bitsTo chosen (suc n) = bitsTo chosen n + cond (chosen n) (2 ^ n) 0
-
--- "Two profiles are supplied: all lines"
-unfoldable pub allLines : ℕ
-allLines = bitsTo (λ i. true) 49
-
--- "at least ten tenths in absolute value"
-abbrev pub atLeastTen : Line → Bool
-atLeastTen line =
-    let ten = natAbs (inCounts (pos 10)) in
-    leb ten (natAbs (line .ip)) || leb ten (natAbs (line .op))
-
--- "and those whose anelastic amplitude (either of ip and op) is at least ten tenths"
-unfoldable pub majorLines : ℕ
-majorLines = bitsTo (λ i. atLeastTen (printedLine Anelastic i)) 49
+-- the selection that names those of the first n lines that are chosen
+unfoldable pub selectionOf : (ℕ → Bool) → ℕ → ℕ
+selectionOf chosen zero = 0
+selectionOf chosen (suc n) = selectionOf chosen n + cond (chosen n) (2 ^ n) 0
 
 -- the number and the value of each answer
 abbrev pub tells : Named → Told ℕ

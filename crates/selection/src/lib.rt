@@ -2,33 +2,15 @@
 ghost use mathlib.Core.Path.{_≡_};
 ghost use Prim.Native.Nat.{_<_};
 ghost use Rattle.refusals.specs.Numbers.{answerNumber};
-ghost use Rattle.selection.specs.Selection.{names as namesLine, linesNamed, selectionRefusal, allLines, majorLines};
+ghost use Rattle.selection.specs.Selection.{names as namesLine, linesNamed, selectionRefusal};
 use refusals::Answer;
 use refusals::Refusal;
-
-const ALL_LINES: u64 = 0x1ffffffffffff;
-
-const MAJOR_LINES: u64 = 0x10984342ff498;
 
 // The answer of a call that takes a selection.
 pub enum Named {
     // How many lines the selection names.
     Lines(u32),
     Refused(Refusal),
-}
-
-// The profile of all 49 lines.
-pub fn all_lines() -> u64
-    ensures { λ r. ⌜ r ≡ allLines ⌝ }
-{
-    ALL_LINES
-}
-
-// The profile of the lines that have an anelastic amplitude, ip or op, of at least ten tenths.
-pub fn major_lines() -> u64
-    ensures { λ r. ⌜ r ≡ majorLines ⌝ }
-{
-    MAJOR_LINES
 }
 
 // Whether a selection names line i.

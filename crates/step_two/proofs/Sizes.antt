@@ -14,7 +14,7 @@ use Rattle.bands.proofs.Sizes.{corrections-small as lines-small}
 use Rattle.choices.specs.declared.LoveModel.{LoveModel}
 use Rattle.lines.specs.Lines.{linePhase, printedLine}
 use Rattle.lines.proofs.Table.{printed-small}
-use Rattle.selection.specs.Selection.{names, withoutAmplitudes, selectedLine}
+use Rattle.selection.specs.Selection.{names, withoutAmplitudes, selected}
 use Rattle.wave.specs.Wave.{sin, cos}
 use Rattle.wave.proofs.Size.{sin-size, cos-size}
 use Rattle.whole.proofs.Machine.{back}
@@ -40,8 +40,8 @@ module _ (z : ℤ) (g : mag z < 2 ^ 31) where
   wave-read = toZ-ofZ wave-fits ∙ back w32 z g
 
 -- a line that is not named is no heavier than the printed one
-pub selected-light : (love : LoveModel) (selection i : ℕ) → Light 472000 (selectedLine love selection i)
-unfolding selectedLine
+pub selected-light : (love : LoveModel) (selection i : ℕ) → Light 472000 (selected selection (printedLine love) i)
+unfolding selected
 selected-light love selection i = by (names selection i)
   where
     by : (b : Bool) → Light 472000 (cond b (printedLine love i) (withoutAmplitudes (printedLine love i)))
@@ -52,5 +52,5 @@ selected-light love selection i = by (names selection i)
 pub corrections-small : (phases : Phases) (love : LoveModel) (selection : ℕ) → Small (corrections phases love selection)
 unfolding corrections
 corrections-small phases love selection =
-    lines-small (selectedLine love selection) (λ i. cos (linePhase phases i)) (λ i. sin (linePhase phases i)) 472000 49 (omega arith) (omega arith)
+    lines-small (selected selection (printedLine love)) (λ i. cos (linePhase phases i)) (λ i. sin (linePhase phases i)) 472000 49 (omega arith) (omega arith)
     (λ i l. selected-light love selection i) (λ i. omega (arith, cos-size (linePhase phases i))) (λ i. omega (arith, sin-size (linePhase phases i)))

@@ -1,5 +1,5 @@
 -- A line that is not named, or that a Love model has no amplitudes for, gives nothing, whatever its wave: so the waves kept of the lines used give the
--- sums of the lines named. All lines selected give the sums without a selection, and none give nothing.
+-- sums of the lines named. And no lines give nothing.
 use borrow.Author.Tests.{leb-false, lt-ltb}
 use mathlib.Core.Bool.{Bool, true, false, cond, _&&_, _||_}
 use mathlib.Core.List.{List}
@@ -16,14 +16,13 @@ use Rattle.choices.specs.declared.LoveModel.{LoveModel}
 use Rattle.choices.specs.declared.LoveModel.the-variants.{Elastic, Anelastic}
 use Rattle.hour.specs.Inner.{isInModel, isUsed, kept, Waved}
 use Rattle.lines.specs.Lines.{bandAt, inModel, linePhase, printedLine}
-use Rattle.selection.specs.Selection.{names, withoutAmplitudes, selectedLine, allLines}
+use Rattle.selection.specs.Selection.{names, withoutAmplitudes, selected}
 use Rattle.selection.proofs.Bits.{clear-above}
-use Rattle.selection.proofs.Laws.{all-selected}
 use Rattle.wave.specs.Wave.{sin, cos}
 use Rattle.whole.specs.Nearest.{nearest}
 use Rattle.whole.specs.Sum.{sumTo}
 use Rattle.whole.proofs.Sums.{sum-same}
-use Rattle.step_two.specs.StepTwo.{printedSum, selectedSum, corrections}
+use Rattle.step_two.specs.StepTwo.{selectedSum, corrections}
 
 -- no amplitudes, or no wave: no term
 no-size : (z : ℤ) → natAbs z ≤ 0 → z ≡ pos 0
@@ -56,29 +55,22 @@ module _ (love : LoveModel) (i : ℕ) (k : Coefficient) (c s : ℤ) where
   by-use false true e = no-wave k (printedLine love i) ∙ sym (subst (λ (l : Line). term k l c s ≡ pos 0) (not-in-model love i e) (no-amplitudes k (printedLine love i) c s))
   by-use false false e = no-wave k (printedLine love i) ∙ sym (no-amplitudes k (printedLine love i) c s)
 
-  same-term : (selection : ℕ) → term k (printedLine love i) (cond (isUsed love selection i) c (pos 0)) (cond (isUsed love selection i) s (pos 0)) ≡ term k (selectedLine love selection i) c s
-  unfolding isUsed selectedLine
+  same-term : (selection : ℕ) → term k (printedLine love i) (cond (isUsed love selection i) c (pos 0)) (cond (isUsed love selection i) s (pos 0)) ≡ term k (selected selection (printedLine love) i) c s
+  unfolding isUsed selected
   same-term selection = by-use (isInModel love i) (names selection i) refl
 
 pub waved-sum : (phases : Phases) (love : LoveModel) (selection : ℕ) (C S : List ℤ) → Waved phases love selection C S → (k : Coefficient)
     → sumOf (printedLine love) (kept C) (kept S) 49 k ≡ selectedSum sin cos phases love selection k
 unfolding sumOf
 waved-sum phases love selection C S W k =
-    sum-same (λ i. term k (printedLine love i) (kept C i) (kept S i)) (λ i. term k (selectedLine love selection i) (cos (linePhase phases i)) (sin (linePhase phases i))) 49
+    sum-same (λ i. term k (printedLine love i) (kept C i) (kept S i)) (λ i. term k (selected selection (printedLine love) i) (cos (linePhase phases i)) (sin (linePhase phases i))) 49
     (λ i l. rw (W .cosines i l, W .sines i l) (same-term love i k (cos (linePhase phases i)) (sin (linePhase phases i)) selection))
-
--- all lines selected: the sums without a selection
-pub all-lines-sum : (S C : ℕ → ℤ) (phases : Phases) (love : LoveModel) (k : Coefficient) → selectedSum S C phases love allLines k ≡ printedSum S C phases love k
-unfolding sumOf
-all-lines-sum S C phases love k =
-    sum-same (λ i. term k (selectedLine love allLines i) (C (linePhase phases i)) (S (linePhase phases i))) (λ i. term k (printedLine love i) (C (linePhase phases i)) (S (linePhase phases i))) 49
-    (λ i l. rw (all-selected love i l) refl)
 
 -- no line selected: nothing
 no-sum : (phases : Phases) (love : LoveModel) (k : Coefficient) → selectedSum sin cos phases love 0 k ≡ pos 0
-unfolding sumOf sumTo selectedLine
+unfolding sumOf sumTo selected
 no-sum phases love k =
-    sum-same (λ i. term k (selectedLine love 0 i) (cos (linePhase phases i)) (sin (linePhase phases i))) (λ i. pos 0) 49
+    sum-same (λ i. term k (selected 0 (printedLine love) i) (cos (linePhase phases i)) (sin (linePhase phases i))) (λ i. pos 0) 49
     (λ i l. rw (clear-above 0 0 (omega arith) i (omega arith)) (no-amplitudes k (printedLine love i) (cos (linePhase phases i)) (sin (linePhase phases i))))
 
 pub no-lines : (phases : Phases) (love : LoveModel) → corrections phases love 0 ≡ record { c20 = pos 0; c21 = pos 0; s21 = pos 0; c22 = pos 0; s22 = pos 0 }

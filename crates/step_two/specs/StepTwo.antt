@@ -6,7 +6,7 @@ use Rattle.bands.specs.declared.Corrections.{Corrections}
 use Rattle.bands.specs.Bands.{Coefficient, sumOf, correctionsOf}
 use Rattle.choices.specs.declared.LoveModel.{LoveModel}
 use Rattle.lines.specs.Lines.{linePhase, printedLine}
-use Rattle.selection.specs.Selection.{selectedLine}
+use Rattle.selection.specs.Selection.{selected}
 use Rattle.wave.specs.Wave.{sin, cos}
 
 -- the sums of the printed lines over a sine S and a cosine C of a phase, which are the rounded or the exact ones
@@ -15,7 +15,7 @@ printedSum S C phases love = sumOf (printedLine love) (λ i. C (linePhase phases
 
 -- those of the lines that a selection names: the same sums without the amplitudes of the others
 abbrev pub selectedSum : (ℕ → ℤ) → (ℕ → ℤ) → Phases → LoveModel → ℕ → Coefficient → ℤ
-selectedSum S C phases love selection = sumOf (selectedLine love selection) (λ i. C (linePhase phases i)) (λ i. S (linePhase phases i)) 49
+selectedSum S C phases love selection = sumOf (selected selection (printedLine love)) (λ i. C (linePhase phases i)) (λ i. S (linePhase phases i)) 49
 
 unfoldable pub corrections : Phases → LoveModel → ℕ → Corrections
 corrections phases love selection = correctionsOf (selectedSum sin cos phases love selection)

@@ -13,8 +13,8 @@ use Rattle.bands.specs.Inner.{Light}
 use Rattle.bands.specs.Bands.{Coefficient, C20, C21, S21, C22, S22, taken, term, sumOf, correctionOf, correctionsOf}
 use Rattle.bands.proofs.Terms.{taken-size}
 use Rattle.choices.specs.declared.LoveModel.{LoveModel}
-use Rattle.lines.specs.Lines.{linePhase}
-use Rattle.selection.specs.Selection.{selectedLine}
+use Rattle.lines.specs.Lines.{linePhase, printedLine}
+use Rattle.selection.specs.Selection.{selected}
 use Rattle.series.specs.Exact.{bottom, factorial, denominator, scale, exact-sin, exact-cos}
 use Rattle.series.proofs.Sums.{waves-near}
 use Rattle.wave.specs.Wave.{sin, cos}
@@ -80,5 +80,5 @@ as-printed-close lines light phase k =
 pub step-two-close : (phases : Phases) (love : LoveModel) (selection : ℕ) → CloseToExact phases love selection
 unfolding corrections correctionsOf
 step-two-close phases love selection =
-    let near = as-printed-close (selectedLine love selection) (λ i l. selected-light love selection i) (linePhase phases) in
+    let near = as-printed-close (selected selection (printedLine love)) (λ i l. selected-light love selection i) (linePhase phases) in
     record { c20 = near C20; c21 = near C21; s21 = near S21; c22 = near C22; s22 = near S22 }

@@ -10,7 +10,8 @@ ghost use Rattle.lines.specs.Lines.{findLine, tells as tellsSought};
 ghost use Rattle.permanent.specs.Systems.{movedC20, tells as tellsMoved};
 ghost use Rattle.refusals.specs.Numbers.{answerNumber};
 ghost use Rattle.refusals.specs.Outcome.{Gives, GivesValue, firstOf};
-ghost use Rattle.selection.specs.Selection.{linesNamed, allLines, majorLines, tells as tellsNamed};
+ghost use Rattle.profiles.specs.Profiles.{allLines, majorLines};
+ghost use Rattle.selection.specs.Selection.{linesNamed, tells as tellsNamed};
 ghost use Rattle.surfgimlet.specs.Calls.{forC, forS, placesC, placesS, fiveCorrected, stepOne, stepTwo, ownLines, oceanTide};
 ghost use Rattle.surfgimlet.specs.Inner.{FiveReady};
 use arguments::Multipliers;
@@ -113,14 +114,14 @@ pub fn step_two(
 pub fn all_lines() -> u64
     ensures { λ r. ⌜ r ≡ allLines ⌝ }
 {
-    selection::all_lines()
+    profiles::all_lines()
 }
 
 // The selection of the printed lines that have an anelastic amplitude, ip or op, of at least ten tenths.
 pub fn major_lines() -> u64
     ensures { λ r. ⌜ r ≡ majorLines ⌝ }
 {
-    selection::major_lines()
+    profiles::major_lines()
 }
 
 // Tide lines of an operator's own (document 02, T-01).

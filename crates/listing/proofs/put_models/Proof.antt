@@ -6,7 +6,7 @@ use Prim.Native.Nat.{ℕ}
 use native.Mathlib.Omega.{arith}
 use lib.ListN.{length-append}
 use Rattle.choices.specs.declared.LoveModel.the-variants.{Elastic, Anelastic}
-use Rattle.selection.specs.Selection.{allLines}
+use Rattle.profiles.specs.Profiles.{allLines}
 use Rattle.step_two.specs.StepTwo.{corrections}
 use Rattle.step_two.proofs.Sizes.{corrections-small}
 use Rattle.text.specs.Text.{ascii}
