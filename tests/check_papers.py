@@ -40,8 +40,9 @@ def lines():
     printed = re.findall(r'(\d+),(\d{3}) (-?\d+)(?:/(-?\d+))?(?=;| \|)', read('docs/RULES.md'))
     if [(int(a + b), int(first), int(second or first)) for a, b, first, second in printed] != list(tides.PRINTED):
         yield 'docs/RULES.md: its lines are not the 49 of second/tides.py'
-    major = re.search(r'in absolute\s+value: ([\d,;\s]+)\.', read('docs/RULES.md'))[1]
-    if [int(number.replace(',', '')) for number in major.split(';')] != [tides.PRINTED[i][0] for i in tides.named_lines(tides.MAJOR_LINES)]:
+    major = re.search(r'at least ten tenths in\s+absolute\s+value: ([\d,;\s]+)\.', read('docs/RULES.md'))
+    wanted = [tides.PRINTED[i][0] for i in tides.named_lines(tides.MAJOR_LINES)]
+    if not major or [int(number.replace(',', '')) for number in major[1].split(';')] != wanted:
         yield 'docs/RULES.md: its lines of at least ten tenths are not those of second/tides.py'
 
 
