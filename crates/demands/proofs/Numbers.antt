@@ -1,5 +1,5 @@
 -- The calls without a field are refused exactly when the table says: 2 of a C20 to move, 10 and 11 of a Doodson number. And 14 of step two.
-use borrow.Author.Tests.{leb-true, leb-false, le-leb, lt-leb, ltb-true, ltb-false, eq-eqb, ne-eqb}
+use borrow.Author.Tests.{leb-true, leb-false, le-leb, lt-leb, eq-eqb, ne-eqb}
 use mathlib.Core.Bool.{Bool, true, false, cond, _&&_}
 use mathlib.Core.List.{List, [], _∷_}
 use mathlib.Core.Logic.{_↔_}
@@ -21,7 +21,8 @@ use Rattle.refusals.specs.Told.{Told, toldNumber}
 use Rattle.refusals.specs.Told.Told.{accepted, refused}
 use Rattle.refusals.specs.Outcome.{firstOf}
 use Rattle.refusals.proofs.Outcomes.{first-kept, first-passed}
-use Rattle.selection.specs.Selection.{selectionRefusal}
+use Rattle.selection.specs.Selection.{names, selectionRefusal}
+use Rattle.selection.proofs.Laws.{no-bit-above}
 use Rattle.surfgimlet.specs.Calls.{stepTwoRefusal}
 
 clash : {X : Type 0} → true ≡ false → X
@@ -110,11 +111,15 @@ module _ (n : ℕ) (c s : List ℤ) (selection : ℕ) where
       by true false = omega arith
       by false b = omega arith
 
-  pub fourteen-of-step-two : stepTwoRefusal n c s selection ≡ 14 ↔ ((fieldRefusal n c s ≡ 0) × (2 ^ 49 ≤ selection))
+  -- not every bit from 49 on is clear
+  abbrev BitAbove : Type 0
+  BitAbove = ((i : ℕ) → 49 ≤ i → names selection i ≡ false) → ⊥
+
+  pub fourteen-of-step-two : stepTwoRefusal n c s selection ≡ 14 ↔ ((fieldRefusal n c s ≡ 0) × BitAbove)
   unfolding stepTwoRefusal selectionRefusal
-  fourteen-of-step-two = by (fieldRefusal n c s) field-most (isSelection selection) refl
+  fourteen-of-step-two = by (fieldRefusal n c s) field-most (isSelection selection) (no-bit-above selection)
     where
-      by : (f : ℕ) → f ≤ 2 → (b : Bool) → isSelection selection ≡ b → firstOf f (cond b 0 14) ≡ 14 ↔ ((f ≡ 0) × (2 ^ 49 ≤ selection))
-      by zero h true t = (λ e. absurd (let z : 0 ≡ 14 = sym (first-passed 0 0 refl) ∙ e in omega (arith, z)), λ k. absurd (omega (arith, ltb-true selection (2 ^ 49) t)))
-      by zero h false t = (λ e. (refl, ltb-false selection (2 ^ 49) t), λ k. first-passed 0 14 refl)
+      by : (f : ℕ) → f ≤ 2 → (b : Bool) → _≡_ {A = ℕ} (cond b 0 14) 0 ↔ ((i : ℕ) → 49 ≤ i → names selection i ≡ false) → firstOf f (cond b 0 14) ≡ 14 ↔ ((f ≡ 0) × BitAbove)
+      by zero h true t = (λ e. absurd (let z : 0 ≡ 14 = sym (first-passed 0 0 refl) ∙ e in omega (arith, z)), λ k. absurd (k .1 (t .0 refl)))
+      by zero h false t = (λ e. (refl, λ clear. omega (arith, t .1 clear)), λ k. first-passed 0 14 refl)
       by (suc f) h b t = (λ e. absurd (let z : suc f ≡ 14 = sym (first-kept (suc f) (cond b 0 14) (λ q. omega arith)) ∙ e in omega (arith, z)), λ k. absurd (omega arith))

@@ -60,24 +60,30 @@ same-multipliers : (i : ℕ) → i < 49 → multipliersOf (recordAt printedAsOwn
 unfolding listed printedAsOwn multipliersIn multipliersOf multipliersAt lineAt printed diurnal longPeriod semidiurnal
 same-multipliers = agree (λ i. multipliersOf (recordAt printedAsOwn i)) multipliersAt 49 refl
 
--- all lines selected: the sums without a selection
+-- all lines selected: the sums without a selection, rounded or exact, and so the corrections
 pub all-lines-sum : (S C : ℕ → ℤ) (phases : Phases) (love : LoveModel) (k : Coefficient) → selectedSum S C phases love allLines k ≡ printedSum S C phases love k
 unfolding sumOf
 all-lines-sum S C phases love k =
     sum-same (λ i. term k (selected allLines (printedLine love) i) (C (linePhase phases i)) (S (linePhase phases i))) (λ i. term k (printedLine love i) (C (linePhase phases i)) (S (linePhase phases i))) 49
     (λ i l. rw (all-selected (printedLine love) i l) refl)
 
-same-sum : (phases : Phases) (k : Coefficient) → ownSum sin cos phases printedAsOwn k ≡ selectedSum sin cos phases Anelastic allLines k
+pub all-lines : (phases : Phases) (love : LoveModel) → corrections phases love allLines ≡ correctionsOf (printedSum sin cos phases love)
+unfolding corrections correctionsOf
+all-lines phases love =
+    let same = all-lines-sum sin cos phases love in
+    rw (same C20, same C21, same S21, same C22, same S22) refl
+
+same-sum : (phases : Phases) (k : Coefficient) → ownSum sin cos phases printedAsOwn k ≡ printedSum sin cos phases Anelastic k
 unfolding sumOf printedAsOwn diurnal longPeriod semidiurnal
 same-sum phases k =
     sum-same (λ i. term k (lineOf (recordAt printedAsOwn i)) (cos (ownPhase phases printedAsOwn i)) (sin (ownPhase phases printedAsOwn i)))
     (λ i. term k (printedLine Anelastic i) (cos (linePhase phases i)) (sin (linePhase phases i))) 49
     (λ i h. rw (same-line i h, same-multipliers i h) refl)
-    ∙ sym (all-lines-sum sin cos phases Anelastic k)
 
 same-corrections : (phases : Phases) → ownCorrections phases printedAsOwn ≡ corrections phases Anelastic allLines
-unfolding ownCorrections corrections correctionsOf
-same-corrections phases = rw (same-sum phases C20, same-sum phases C21, same-sum phases S21, same-sum phases C22, same-sum phases S22) refl
+unfolding ownCorrections correctionsOf
+same-corrections phases =
+    rw (same-sum phases C20, same-sum phases C21, same-sum phases S21, same-sum phases C22, same-sum phases S22) refl ∙ sym (all-lines phases Anelastic)
 
 -- no number refuses the list
 taken : recordsRefusal printedAsOwn ≡ 0

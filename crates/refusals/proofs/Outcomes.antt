@@ -36,13 +36,13 @@ module _ (number : ℕ) (c s c′ s′ : List ℤ) where
 
 -- a value told, where nothing refuses the call and where a number does
 module _ {A : Type 0} (value : A) where
-  pub told-value : (number : ℕ) → number ≡ 0 → accepted value ≡ toldUnless number value
+  pub tells-value : (number : ℕ) → number ≡ 0 → accepted value ≡ toldUnless number value
   unfolding toldUnless
-  told-value number e = rw e refl
+  tells-value number e = rw e refl
 
-  pub told-refused : (number : ℕ) → (number ≡ 0 → ⊥) → refused number ≡ toldUnless number value
+  pub tells-refusal : (number : ℕ) → (number ≡ 0 → ⊥) → refused number ≡ toldUnless number value
   unfolding toldUnless
-  told-refused number n = rw (ne-eqb number 0 n) refl
+  tells-refusal number n = rw (ne-eqb number 0 n) refl
 
   pub with-value : {o : Outcome} {k : ℕ} {c s : List ℤ} {told : Told A} → Gives o k c s → told ≡ toldUnless k value → GivesValue o value told c s
   with-value g e = record { answer = e ∙ ap (λ (k : ℕ). toldUnless k value) (g .answer); list-c = g .list-c; list-s = g .list-s }

@@ -39,7 +39,7 @@ unfolding names
 above-lowest n i = ap (λ (x : ℕ). eqb (x % 2) 1) (sym (shr-shr n 1 i ∙ ap (λ (x : ℕ). n / 2 ^ x) (one-add i)))
 
 -- ---- how many bits are set
-pub count-same : (f g : ℕ → Bool) (n : ℕ) → ((i : ℕ) → i < n → f i ≡ g i) → countTo f n ≡ countTo g n
+count-same : (f g : ℕ → Bool) (n : ℕ) → ((i : ℕ) → i < n → f i ≡ g i) → countTo f n ≡ countTo g n
 unfolding countTo
 count-same f g zero h = refl
 count-same f g (suc n) h = rw (count-same f g n (λ i l. h i (omega arith)), h n (omega arith)) refl

@@ -6,7 +6,7 @@ use Rattle.refusals.specs.Numbers.{answerNumber}
 use Rattle.refusals.specs.Outcome.{firstOf}
 use Rattle.refusals.specs.Told.Told.{accepted, refused}
 use Rattle.refusals.proofs.Numbers.{refusal-not-zero}
-use Rattle.refusals.proofs.Outcomes.{first-none, told-value, told-refused, with-value}
+use Rattle.refusals.proofs.Outcomes.{first-none, tells-value, tells-refusal, with-value}
 use Rattle.selection.specs.Selection.{linesNamed, selectionRefusal}
 use Rattle.step_two.specs.StepTwo.{corrections}
 use Rattle.step_two.proofs.Sizes.{corrections-small}
@@ -52,7 +52,7 @@ returns c =
     let t = a .before .before .before .before in
     let x = given t .args in
     with-value (linesNamed (x .selection)) (gives-five _ _ refl (passed t) (a .before .corrections-of .ensures) (a .add-five .ensures))
-    (ap accepted (c .lines-named .ensures) ∙ told-value (linesNamed (x .selection)) _ (passed t))
+    (ap accepted (c .lines-named .ensures) ∙ tells-value (linesNamed (x .selection)) _ (passed t))
 
 returns-2 : tie.Need-returns-2
 unfolding stepTwo
@@ -63,7 +63,7 @@ returns-2 c =
     let e = sym (ap answerNumber (why .1)) ∙ first f in
     let some : stepTwoRefusal (x .n) (x .c .now) (x .s .now) (x .selection) ≡ 0 → ⊥ = λ z. refusal-not-zero (why .0 .0) (e ∙ z) in
     with-value (linesNamed (x .selection)) (keeps-five _ _ refl (corrections (x .phases) (x .love) (x .selection)) some)
-    (ap refused e ∙ told-refused (linesNamed (x .selection)) _ some)
+    (ap refused e ∙ tells-refusal (linesNamed (x .selection)) _ some)
 
 pub step-two-spec : {M : Type 1} → statement M
 step-two-spec =
