@@ -79,3 +79,8 @@ isAmplitude a = leb (natAbs a) 100000
 -- 14: "for a bit above 48", so bits 0 to 48
 abbrev pub isSelection : ℕ → Bool
 isSelection selection = ltb selection (2 ^ 49)
+
+-- ---- T-05, "Solid pole tide"
+-- 15: an offset not "within ±1,000,000"
+abbrev pub isPoleOffset : ℤ → Bool
+isPoleOffset offset = leb (natAbs offset) 1000000

@@ -1,6 +1,6 @@
 // The bounds of documents 01 and 02, each named once: a test of a number. A direction's tolerance and a digit's range stand with their rules.
 ghost use mathlib.Core.Path.{_≡_};
-ghost use Rattle.limits.specs.Limits.{isDegree, isEntry, isDistance, isRatio, isCountable, isDoodson, isLineCount, isTideCount, isPlaceCount, isMultiplier, isRowTotal, isSheetDegree, isCoefficient, isRecordCount, isFirstMultiplier, isAmplitude, isSelection};
+ghost use Rattle.limits.specs.Limits.{isDegree, isEntry, isDistance, isRatio, isCountable, isDoodson, isLineCount, isTideCount, isPlaceCount, isMultiplier, isRowTotal, isSheetDegree, isCoefficient, isRecordCount, isFirstMultiplier, isAmplitude, isSelection, isPoleOffset};
 
 const LEAST_DEGREE: u32 = 4;
 
@@ -48,6 +48,9 @@ const LARGEST_AMPLITUDE: i64 = 100000;
 
 // The first bit of a selection that stands for no line.
 const BIT_49: u64 = 0x2000000000000;
+
+// In micro-arcseconds.
+const LARGEST_POLE_OFFSET: i64 = 1000000;
 
 pub fn is_degree(n: u32) -> bool
     ensures { λ r. ⌜ r ≡ isDegree n ⌝ }
@@ -151,4 +154,10 @@ pub fn is_selection(selection: u64) -> bool
     ensures { λ r. ⌜ r ≡ isSelection selection ⌝ }
 {
     selection < BIT_49
+}
+
+pub fn is_pole_offset(offset: i64) -> bool
+    ensures { λ r. ⌜ r ≡ isPoleOffset offset ⌝ }
+{
+    (-LARGEST_POLE_OFFSET <= offset) & (offset <= LARGEST_POLE_OFFSET)
 }

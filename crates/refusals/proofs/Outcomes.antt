@@ -12,16 +12,17 @@ use Rattle.refusals.specs.Outcome.{firstOf, unlessRefused, toldUnless, O
 use Rattle.refusals.specs.Told.{Told}
 use Rattle.refusals.specs.Told.Told.{accepted, refused}
 
--- an outcome, where the answer's number is 0 and where it is another
+-- a call that answered k gives its outcome, where the number is 0 and where it is another
+module _ {number k : ℕ} (c s c′ s′ : List ℤ) (told : k ≡ number) where
+  pub gives-new : {x y : List ℤ} → number ≡ 0 → x ≡ c′ → y ≡ s′ → Gives (unlessRefused number c s c′ s′) k x y
+  unfolding unlessRefused
+  gives-new e in-c in-s = rw e (record { answer = told ∙ e; list-c = in-c; list-s = in-s })
+
+  pub gives-kept : (number ≡ 0 → ⊥) → Gives (unlessRefused number c s c′ s′) k c s
+  unfolding unlessRefused
+  gives-kept n = rw (ne-eqb number 0 n) (record { answer = told; list-c = refl; list-s = refl })
+
 module _ (number : ℕ) (c s c′ s′ : List ℤ) where
-  pub gives-new : number ≡ 0 → Gives (unlessRefused number c s c′ s′) number c′ s′
-  unfolding unlessRefused
-  gives-new e = rw e (record { answer = refl; list-c = refl; list-s = refl })
-
-  pub gives-kept : (number ≡ 0 → ⊥) → Gives (unlessRefused number c s c′ s′) number c s
-  unfolding unlessRefused
-  gives-kept n = rw (ne-eqb number 0 n) (record { answer = refl; list-c = refl; list-s = refl })
-
   -- the outcome's number is the refusal's; and where it is not 0, both lists are as they were
   pub outcome-number : unlessRefused number c s c′ s′ .number ≡ number
   unfolding unlessRefused
@@ -32,7 +33,7 @@ module _ (number : ℕ) (c s c′ s′ : List ℤ) where
       go false e = refl
 
   pub refused-untouched : (number ≡ 0 → ⊥) → (unlessRefused number c s c′ s′ .c ≡ c) × (unlessRefused number c s c′ s′ .s ≡ s)
-  refused-untouched n = let g = gives-kept n in (sym (g .list-c), sym (g .list-s))
+  refused-untouched n = let g : Gives (unlessRefused number c s c′ s′) number c s = gives-kept c s c′ s′ refl n in (sym (g .list-c), sym (g .list-s))
 
 -- a value told, where nothing refuses the call and where a number does
 module _ {A : Type 0} (value : A) where

@@ -19,6 +19,7 @@ pub enum Refusal {
     RecordCount,
     RecordValue,
     SelectionValue,
+    PoleOffset,
 }
 
 // The answer of a call whose results stand in lent memory.
@@ -46,6 +47,7 @@ pub fn refusal_number(why: Refusal) -> u32
         Refusal::RecordCount => 12,
         Refusal::RecordValue => 13,
         Refusal::SelectionValue => 14,
+        Refusal::PoleOffset => 15,
     }
 }
 

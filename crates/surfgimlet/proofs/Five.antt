@@ -86,16 +86,11 @@ five-ready n c s d passed small =
 module _ {number k : ℕ} (c s : List ℤ) (told : k ≡ number) where
   pub gives-five : {c′ s′ : List ℤ} {d e : Corrections} → number ≡ 0 → d ≡ e → (c′ ≡ addedAt placesC (forC d) c) × (s′ ≡ addedAt placesS (forS d) s) → Gives (fiveCorrected number c s e) k c′ s′
   unfolding fiveCorrected
-  gives-five {c′} {s′} {d} {e} passed same lists =
-      let g = gives-new number c s (addedAt placesC (forC e) c) (addedAt placesS (forS e) s) passed in
-      record {
-        answer = told ∙ g .answer;
-        list-c = lists .0 ∙ ap (λ (d : Corrections). addedAt placesC (forC d) c) same ∙ g .list-c;
-        list-s = lists .1 ∙ ap (λ (d : Corrections). addedAt placesS (forS d) s) same ∙ g .list-s;
-      }
+  gives-five passed same lists =
+      gives-new _ _ _ _ told passed
+      (lists .0 ∙ ap (λ (d : Corrections). addedAt placesC (forC d) c) same)
+      (lists .1 ∙ ap (λ (d : Corrections). addedAt placesS (forS d) s) same)
 
   pub keeps-five : (e : Corrections) → (number ≡ 0 → ⊥) → Gives (fiveCorrected number c s e) k c s
   unfolding fiveCorrected
-  keeps-five e refused =
-      let g = gives-kept number c s (addedAt placesC (forC e) c) (addedAt placesS (forS e) s) refused in
-      record { answer = told ∙ g .answer; list-c = g .list-c; list-s = g .list-s }
+  keeps-five e refused = gives-kept _ _ _ _ told refused

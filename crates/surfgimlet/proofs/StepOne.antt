@@ -57,16 +57,10 @@ module _ (n : ℕ) (c s : List ℤ) (moon sun : Body) (love : LoveModel) where
       → (c′ s′ : List ℤ) → c′ ≡ addedAt places (k .c) c → s′ ≡ addedAt places (k .s) s → Gives (stepOne n c s moon sun love) number c′ s′
   unfolding stepOne
   one-new k seen number e z c′ s′ p q =
-      let t = corrections moon sun love in
-      let g = gives-new (stepOneRefusal n c s moon sun love) c s (addedAt places (countsOf t .c) c) (addedAt places (countsOf t .s) s) (sym e ∙ z) in
-      record {
-        answer = e ∙ g .answer;
-        list-c = p ∙ ap (λ (t : Told Counts). addedAt places (countsOf t .c) c) (sym seen) ∙ g .list-c;
-        list-s = q ∙ ap (λ (t : Told Counts). addedAt places (countsOf t .s) s) (sym seen) ∙ g .list-s;
-      }
+      gives-new _ _ _ _ e (sym e ∙ z)
+      (p ∙ ap (λ (t : Told Counts). addedAt places (countsOf t .c) c) (sym seen))
+      (q ∙ ap (λ (t : Told Counts). addedAt places (countsOf t .s) s) (sym seen))
 
   pub one-kept : (number : ℕ) → number ≡ stepOneRefusal n c s moon sun love → (number ≡ 0 → ⊥) → Gives (stepOne n c s moon sun love) number c s
   unfolding stepOne
-  one-kept number e h =
-      let g = gives-kept (stepOneRefusal n c s moon sun love) c s _ _ (λ z. h (e ∙ z)) in
-      record { answer = e ∙ g .answer; list-c = g .list-c; list-s = g .list-s }
+  one-kept number e h = gives-kept _ _ _ _ e (λ z. h (e ∙ z))

@@ -7,12 +7,13 @@ use Rattle.bands.specs.declared.Corrections.{Corrections}
 use Rattle.bodies.specs.declared.Body.{Body}
 use Rattle.choices.specs.declared.Frame.{Frame}
 use Rattle.choices.specs.declared.LoveModel.{LoveModel}
-use Rattle.field.specs.Added.{added, addedAt}
+use Rattle.field.specs.Added.{corrected, added, addedAt}
 use Rattle.field.specs.Field.{place, fieldRefusal}
 use Rattle.ocean.specs.Ocean.{dC, dS}
 use Rattle.own.specs.declared.OwnLine.{OwnLine}
 use Rattle.own.specs.Own.{recordsRefusal, ownCorrections}
 use Rattle.places.specs.Places.{indexOf}
+use Rattle.pole.specs.Pole.{offsetsRefusal, corrections as poleCorrections}
 use Rattle.refusals.specs.Outcome.{Outcome, firstOf, unlessRefused}
 use Rattle.refusals.specs.Told.{Told, toldNumber}
 use Rattle.refusals.specs.Told.Told.{accepted, refused}
@@ -68,6 +69,16 @@ ownLinesRefusal n c s lines = firstOf (fieldRefusal n c s) (recordsRefusal lines
 
 unfoldable pub ownLines : ℕ → List ℤ → List ℤ → List OwnLine → Phases → Outcome
 ownLines n c s lines phases = fiveCorrected (ownLinesRefusal n c s lines) c s (ownCorrections phases lines)
+
+-- ---- solid pole tide (02, T-05): refusals 1, 2, then 15
+unfoldable pub poleTideRefusal : ℕ → List ℤ → List ℤ → ℤ → ℤ → ℕ
+poleTideRefusal n c s xp yp = firstOf (fieldRefusal n c s) (offsetsRefusal xp yp)
+
+-- "Nothing but the two entries moves": C21 and S21
+unfoldable pub poleTide : ℕ → List ℤ → List ℤ → ℤ → ℤ → LoveModel → Outcome
+poleTide n c s xp yp love =
+    let d = poleCorrections xp yp love in
+    unlessRefused (poleTideRefusal n c s xp yp) c s (corrected c (place 2 1) (d .c21)) (corrected s (place 2 1) (d .s21))
 
 -- ---- ocean tide: refusals 1, 2, then the sheet's 7, 8, 9
 unfoldable pub oceanRefusal : ℕ → List ℤ → List ℤ → List ℕ → ℕ

@@ -12,7 +12,7 @@ ghost use Rattle.refusals.specs.Numbers.{answerNumber};
 ghost use Rattle.refusals.specs.Outcome.{Gives, GivesValue, firstOf};
 ghost use Rattle.profiles.specs.Profiles.{allLines, majorLines};
 ghost use Rattle.selection.specs.Selection.{linesNamed, tells as tellsNamed};
-ghost use Rattle.surfgimlet.specs.Calls.{forC, forS, placesC, placesS, fiveCorrected, stepOne, stepTwo, ownLines, oceanTide};
+ghost use Rattle.surfgimlet.specs.Calls.{forC, forS, placesC, placesS, fiveCorrected, stepOne, stepTwo, ownLines, poleTide, oceanTide};
 ghost use Rattle.surfgimlet.specs.Inner.{FiveReady};
 use arguments::Multipliers;
 use arguments::Phases;
@@ -133,6 +133,23 @@ pub fn own_lines(n: u32, c: &mut [i64], s: &mut [i64], lines: &[OwnLine], phases
 {
     let sum = own::sums_of(lines, phases);
     add_own(n, c, s, sum)
+}
+
+// Solid pole tide (001, "Solid Earth Pole Tide"; document 02, T-05).
+// Given: a field, the pole's offsets xp and yp from its mean in micro-arcseconds, yp towards 90 degrees west, the Love model.
+// Done: the corrections of C21 and S21 are added.
+// Refused: 1, 2, then 15, an offset outside -1,000,000..1,000,000.
+pub fn pole_tide(n: u32, c: &mut [i64], s: &mut [i64], xp: i64, yp: i64, love: LoveModel) -> Answer
+    ensures { λ r. ⌜ Gives (poleTide n (now (c .entry)) (now (s .entry)) xp yp love) (answerNumber r) (now (c .exit)) (now (s .exit)) ⌝ }
+{
+    let offsets = pole::tested(xp, yp);
+    let answer = refusals::first_of(field::tested(n, c, s), offsets);
+    if let Answer::Accepted = answer {
+        let d = pole::corrections_of(xp, yp, love);
+        field::correct(c, PLACE_21, d.c21);
+        field::correct(s, PLACE_21, d.s21);
+    }
+    answer
 }
 
 // Ocean tide (002; document 01, "Model sheet and ocean tide").

@@ -75,9 +75,8 @@ unfolding oceanTide
 returns c =
     let e = c .before .before .before .before .before in
     let f = e .before .before in
-    let g = gives-new (number f) (start f .args .c .now) (start f .args .s .now) (new-c f) (new-s f) (passed e) in
     let t = c .before .before .add-tide .ensures in
-    record { answer = number-is f ∙ g .answer; list-c = t .list-c ∙ g .list-c; list-s = t .list-s ∙ g .list-s }
+    gives-new _ _ (new-c f) (new-s f) (number-is f) (passed e) (t .list-c) (t .list-s)
 
 same-length-3 : tie.Need-same-length-3
 same-length-3 c = search needs
@@ -89,9 +88,7 @@ returns-2 : tie.Need-returns-2
 unfolding oceanTide
 returns-2 c =
     let f = c .before .before in
-    let g = gives-kept (number f) (start f .args .c .now) (start f .args .s .now) (new-c f) (new-s f)
-    (λ e. refusal-not-zero (c .enum-told2 .given .0 .0) (sym (ap answerNumber (c .enum-told2 .given .1)) ∙ number-is f ∙ e)) in
-    record { answer = number-is f ∙ g .answer; list-c = g .list-c; list-s = g .list-s }
+    gives-kept _ _ _ _ (number-is f) (λ e. refusal-not-zero (c .enum-told2 .given .0 .0) (sym (ap answerNumber (c .enum-told2 .given .1)) ∙ number-is f ∙ e))
 
 pub ocean-tide-spec : {M : Type 1} → statement M
 ocean-tide-spec =
