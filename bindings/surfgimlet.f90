@@ -6,10 +6,10 @@ module surfgimlet
     private
     public :: c_int32_t, c_int64_t, c_size_t, c_double, c_int8_t
     public :: phases, body, own_line, phase, words
-    public :: version, step_one, step_two, all_lines, major_lines, own_lines, ocean_tide, move_c20
+    public :: version, step_one, step_two, all_lines, major_lines, own_lines, pole_tide, ocean_tide, move_c20
     public :: multipliers_of, number_of, find_line
 
-    integer(c_int32_t), parameter, public :: header_version = 2000000
+    integer(c_int32_t), parameter, public :: header_version = 2001000
     integer(c_int32_t), parameter, public :: elastic = 0, anelastic = 1
     integer(c_int32_t), parameter, public :: centre_of_figure = 0, centre_of_mass = 1
     integer(c_int32_t), parameter, public :: tide_free = 0, zero_tide = 1, mean_tide = 2
@@ -73,6 +73,15 @@ module surfgimlet
             integer(c_size_t), value :: c_length, s_length, lines_length
             type(own_line), intent(in) :: lines(*)
             type(phases), value :: at
+        end function
+
+        integer(c_int32_t) function c_pole_tide(n, c, c_length, s, s_length, xp, yp, love_model) &
+            bind(c, name="surfgimlet_pole_tide")
+            import
+            integer(c_int32_t), value :: n, love_model
+            integer(c_int64_t), intent(inout) :: c(*), s(*)
+            integer(c_size_t), value :: c_length, s_length
+            integer(c_int64_t), value :: xp, yp
         end function
 
         integer(c_int32_t) function c_ocean_tide(n, c, c_length, s, s_length, sheet, sheet_length, at, frame) &
@@ -139,6 +148,14 @@ contains
         answer = c_own_lines(n, c, size(c, kind=c_size_t), s, size(s, kind=c_size_t), lines, size(lines, kind=c_size_t), at)
     end function
 
+    ! xp and yp are the pole's offsets from its mean in whole micro-arcseconds, yp towards 90 degrees west
+    integer(c_int32_t) function pole_tide(n, c, s, xp, yp, love_model) result(answer)
+        integer(c_int32_t), intent(in) :: n, love_model
+        integer(c_int64_t), intent(inout), contiguous :: c(:), s(:)
+        integer(c_int64_t), intent(in) :: xp, yp
+        answer = c_pole_tide(n, c, size(c, kind=c_size_t), s, size(s, kind=c_size_t), xp, yp, love_model)
+    end function
+
     integer(c_int32_t) function ocean_tide(n, c, s, sheet, at, frame) result(answer)
         integer(c_int32_t), intent(in) :: n, frame
         integer(c_int64_t), intent(inout), contiguous :: c(:), s(:)
@@ -175,6 +192,7 @@ contains
         case (12); words = "the list of own lines has more than 64 records"
         case (13); words = "an own line has a multiplier outside -13..13, a first one not 0, 1 or 2, or an amplitude beyond 100,000"
         case (14); words = "the selection has a bit above 48, which stands for no line"
+        case (15); words = "a pole offset is outside -1,000,000..1,000,000 micro-arcseconds"
         case (100); words = "a choice, or a body's kind, is none of its numbers"
         case default; words = "no answer of this unit"
         end select

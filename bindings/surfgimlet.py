@@ -13,7 +13,7 @@ from array import array
 from collections import namedtuple
 from ctypes import POINTER, byref, c_double, c_int32, c_int64, c_size_t, c_uint8, c_uint32, c_uint64
 
-VERSION = 2000000
+VERSION = 2001000
 ELASTIC, ANELASTIC = 0, 1
 CENTRE_OF_FIGURE, CENTRE_OF_MASS = 0, 1
 TIDE_FREE, ZERO_TIDE, MEAN_TIDE = 0, 1, 2
@@ -35,6 +35,7 @@ WORDS = {
     12: "the list of own lines has more than 64 records",
     13: "an own line has a multiplier outside -13..13, a first one not 0, 1 or 2, or an amplitude beyond 100,000",
     14: "the selection has a bit above 48, which stands for no line",
+    15: "a pole offset is outside -1,000,000..1,000,000 micro-arcseconds",
     100: "a choice, or a body's kind, is none of its numbers",
 }
 
@@ -81,6 +82,7 @@ def _library():
             ('step_one', lists + [_Body, _Body, c_uint32]),
             ('step_two', lists + [_Phases, c_uint32, c_uint64, POINTER(c_uint32)]),
             ('own_lines', lists + [POINTER(_OwnLine), c_size_t, _Phases]),
+            ('pole_tide', lists + [c_int64, c_int64, c_uint32]),
             ('ocean_tide', lists + [POINTER(c_uint8), c_size_t, _Phases, c_uint32]),
             ('move_c20', [c_int64, c_uint32, c_uint32, c_uint32, POINTER(c_int64)]),
             ('multipliers_of', [c_uint32, POINTER(c_int32)]),
@@ -168,6 +170,11 @@ def own_lines(n, c, s, lines, phases):
     """The lines are OwnLines, or tuples of eight."""
     given = [_own_line(line) for line in lines]
     _over_field(_unit.surfgimlet_own_lines, n, c, s, (_OwnLine * len(given))(*given), len(given), _phases(phases))
+
+
+def pole_tide(n, c, s, xp, yp, love_model):
+    """xp and yp are the pole's offsets from its mean in whole micro-arcseconds, yp towards 90 degrees west."""
+    _over_field(_unit.surfgimlet_pole_tide, n, c, s, *array('q', (xp, yp)), _u32(love_model))
 
 
 def ocean_tide(n, c, s, sheet, phases, frame):

@@ -1,6 +1,6 @@
 /* Every call at one epoch, 2004-05-17 0h: `epoch SHEET <epoch.txt`. The input is six phases, then of the Moon and of the Sun the mass
- * ratio, x, y, z and r, then how many own lines there are, and of each the six multipliers, ip and op. The corrections are gathered in
- * zeros of degree 12; a processor adds 1e-15 times each to its own coefficients. */
+ * ratio, x, y, z and r, then how many own lines there are, and of each the six multipliers, ip and op, then the pole's offsets xp and yp.
+ * The corrections are gathered in zeros of degree 12; a processor adds 1e-15 times each to its own coefficients. */
 #include <errno.h>
 #include <inttypes.h>
 #include <stdio.h>
@@ -98,6 +98,8 @@ int main(int argc, char **argv)
     surfgimlet_own_line lines[64];
     size_t lines_length = (size_t)whole("number of own lines", 0, 64);
     for (size_t i = 0; i < lines_length; i++) lines[i] = own_line();
+    int64_t xp = whole("pole offset", INT64_MIN, INT64_MAX);
+    int64_t yp = whole("pole offset", INT64_MIN, INT64_MAX);
 
     if (surfgimlet_version() != SURFGIMLET_VERSION) {
         puts("library and header are of two versions");
@@ -119,6 +121,8 @@ int main(int argc, char **argv)
     printf("lines named %" PRIu32 "\n", named);
     accepted("own_lines", surfgimlet_own_lines(DEGREE, c, ENTRIES, s, ENTRIES, lines, lines_length, at));
     added("own lines");
+    accepted("pole_tide", surfgimlet_pole_tide(DEGREE, c, ENTRIES, s, ENTRIES, xp, yp, love));
+    added("pole tide");
     accepted("ocean_tide", surfgimlet_ocean_tide(DEGREE, c, ENTRIES, s, ENTRIES, sheet, sheet_length, at, SURFGIMLET_CENTRE_OF_MASS));
     added("ocean tide");
 

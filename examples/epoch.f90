@@ -1,13 +1,13 @@
 ! Every call at one epoch, 2004-05-17 0h: `epoch SHEET <epoch.txt`. The input is six phases, then of the Moon and of the Sun the mass
-! ratio, x, y, z and r, then how many own lines there are, and of each the six multipliers, ip and op. The corrections are gathered in
-! zeros of degree 12; a processor adds 1e-15 times each to its own coefficients.
+! ratio, x, y, z and r, then how many own lines there are, and of each the six multipliers, ip and op, then the pole's offsets
+! xp and yp. The corrections are gathered in zeros of degree 12; a processor adds 1e-15 times each to its own coefficients.
 program epoch
     use surfgimlet
     implicit none
     integer(c_int32_t), parameter :: degree = 12, love = anelastic
     integer, parameter :: entries = (degree + 1) * (degree + 2) / 2
     integer(c_int64_t) :: c(entries) = 0, s(entries) = 0, c_before(entries) = 0, s_before(entries) = 0
-    integer(c_int64_t) :: given(6), c20, first, second
+    integer(c_int64_t) :: given(6), xp, yp, c20, first, second
     integer(c_int32_t) :: n(6), number, named, answer, bits(6)
     integer(c_size_t) :: index
     integer(c_int8_t), allocatable :: sheet(:)
@@ -25,6 +25,8 @@ program epoch
     moon = read_body()
     sun = read_body()
     call read_lines()
+    read (*, *, iostat=status) xp, yp
+    if (status /= 0) call give_up('two pole offsets are wanted')
 
     if (version() /= header_version) call give_up('library and module are of two versions')
     print '(a, i0)', 'version ', version()
@@ -41,6 +43,8 @@ program epoch
     print '(a, i0)', 'lines named ', named
     call accepted('own_lines', own_lines(degree, c, s, lines, at))
     call added('own lines')
+    call accepted('pole_tide', pole_tide(degree, c, s, xp, yp, love))
+    call added('pole tide')
     call accepted('ocean_tide', ocean_tide(degree, c, s, sheet, at, centre_of_mass))
     call added('ocean tide')
 

@@ -1,6 +1,6 @@
 """Every call at one epoch, 2004-05-17 0h: `python3 epoch.py SHEET <epoch.txt`. The input is six phases, then of the Moon and of the Sun the mass
-ratio, x, y, z and r, then how many own lines there are, and of each the six multipliers, ip and op. The corrections are gathered in zeros of
-degree 12; a processor adds 1e-15 times each to its own coefficients."""
+ratio, x, y, z and r, then how many own lines there are, and of each the six multipliers, ip and op, then the pole's offsets xp and yp. The
+corrections are gathered in zeros of degree 12; a processor adds 1e-15 times each to its own coefficients."""
 import sys
 
 import surfgimlet as unit
@@ -26,6 +26,7 @@ def main():
     phases = unit.Phases(*map(int, words[:6]))
     moon, sun = (unit.Body(unit.RECTANGULAR, *map(float, words[at:at + 5])) for at in (6, 11))
     lines = [unit.OwnLine(*map(int, words[at:at + 8])) for at in range(17, 17 + 8 * int(words[16]), 8)]
+    xp, yp = map(int, words[17 + 8 * len(lines):])
     love = unit.ANELASTIC
 
     if unit.version() != unit.VERSION:
@@ -41,6 +42,7 @@ def main():
             # a laser operator's selection; an altimeter operator's may be unit.major_lines()
             ('step two', lambda: unit.step_two(DEGREE, c, s, phases, love, unit.all_lines())),
             ('own lines', lambda: unit.own_lines(DEGREE, c, s, lines, phases)),
+            ('pole tide', lambda: unit.pole_tide(DEGREE, c, s, xp, yp, love)),
             ('ocean tide', lambda: unit.ocean_tide(DEGREE, c, s, sheet, phases, unit.CENTRE_OF_MASS))):
         before = c[:], s[:]
         named = call()

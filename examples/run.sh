@@ -44,5 +44,9 @@ for program in "${programs[@]}"; do
         ! sed "5s/^0 2 /0 $wrong /" examples/epoch.txt | $program "$work/sheet" >"$work/stdout" 2>/dev/null || { echo "$name: $wrong taken for a multiplier"; exit 1; }
         ! grep -qx "own lines" "$work/stdout" || { echo "$name: own lines worked out with the multiplier $wrong"; exit 1; }
     done
-    echo "$name: as stored; -1, 4294967296 and 99999999999 are no phases, 14 and 4294967298 no multipliers"
+    for wrong in 1000001 -4294967296; do
+        ! sed "\$s/^[-0-9]*/$wrong/" examples/epoch.txt | $program "$work/sheet" >"$work/stdout" 2>/dev/null || { echo "$name: $wrong taken for a pole offset"; exit 1; }
+        ! grep -qx "pole tide" "$work/stdout" || { echo "$name: pole tide worked out with the offset $wrong"; exit 1; }
+    done
+    echo "$name: as stored; -1, 4294967296 and 99999999999 are no phases, 14 and 4294967298 no multipliers, 1000001 and -4294967296 no pole offsets"
 done

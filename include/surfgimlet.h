@@ -28,7 +28,7 @@
 #include <stdint.h>
 
 /* major * 1,000,000 + minor * 1,000 + patch; surfgimlet_version answers that of the library. */
-#define SURFGIMLET_VERSION 2000000
+#define SURFGIMLET_VERSION 2001000
 
 /* Where the compiler can, it warns of an answer that is not used. */
 #if defined(__cplusplus) && __cplusplus >= 201703L
@@ -55,6 +55,7 @@
 #define SURFGIMLET_RECORD_COUNT 12u
 #define SURFGIMLET_RECORD_VALUE 13u
 #define SURFGIMLET_SELECTION_VALUE 14u
+#define SURFGIMLET_POLE_OFFSET 15u
 #define SURFGIMLET_NO_SUCH_CHOICE 100u
 
 static inline const char *surfgimlet_words(uint32_t answer)
@@ -75,6 +76,7 @@ static inline const char *surfgimlet_words(uint32_t answer)
     case SURFGIMLET_RECORD_COUNT: return "the list of own lines has more than 64 records";
     case SURFGIMLET_RECORD_VALUE: return "an own line has a multiplier outside -13..13, a first one not 0, 1 or 2, or an amplitude beyond 100,000";
     case SURFGIMLET_SELECTION_VALUE: return "the selection has a bit above 48, which stands for no line";
+    case SURFGIMLET_POLE_OFFSET: return "a pole offset is outside -1,000,000..1,000,000 micro-arcseconds";
     case SURFGIMLET_NO_SUCH_CHOICE: return "a choice, or a body's kind, is none of its numbers";
     default: return "no answer of this unit";
     }
@@ -155,6 +157,17 @@ uint64_t surfgimlet_major_lines(void);
 SURFGIMLET_ANSWER uint32_t surfgimlet_own_lines(uint32_t n, int64_t *c, size_t c_length, int64_t *s, size_t s_length,
                                                 const surfgimlet_own_line *lines, size_t lines_length,
                                                 surfgimlet_phases phases);
+
+/* Solid pole tide: the deformation that the pole's motion about its mean raises. In counts, before its one rounding:
+ *   elastic: -1290 xp / 1000 to C21, 1290 yp / 1000 to S21;
+ *   anelastic: -1348 (10000 xp + 112 yp) / 10^7 to C21, 1348 (10000 yp - 112 xp) / 10^7 to S21.
+ * Given: a field in counts, n its degree, the lengths in entries; xp and yp, the pole's offsets from its mean in whole
+ * micro-arcseconds, xp towards Greenwich and yp towards 90 degrees WEST, each -1,000,000..1,000,000; a Love model. Arcseconds
+ * in a double are llround(1e6 * x): handed over as they are, C would cut them to 0.
+ * Done: the corrections of C21 and S21 are added.
+ * Refused: 100; 1, 2; 15. */
+SURFGIMLET_ANSWER uint32_t surfgimlet_pole_tide(uint32_t n, int64_t *c, size_t c_length, int64_t *s, size_t s_length,
+                                                int64_t xp, int64_t yp, uint32_t love_model);
 
 /* Ocean tide of a model sheet. All numbers of a sheet are little-endian, each section comes after its 16-bit count:
  *   lines (1..128): six signed bytes, the multipliers, each -13..13;

@@ -1,10 +1,10 @@
-"""Runs the cases of the description (01, and T-01, T-02 and T-04 of 02) and its bounds on the second program; prints one line."""
+"""Runs the cases of the description (01, and T-01, T-02, T-04 and T-05 of 02) and its bounds on the second program; prints one line."""
 
 import struct
 from collections import Counter
 from fractions import Fraction
 from itertools import combinations, product
-from math import atan2, cos, factorial, floor, hypot, inf, nan, nextafter, sin, sqrt
+from math import atan2, ceil, cos, factorial, floor, hypot, inf, nan, nextafter, pi, sin, sqrt, trunc
 from operator import add
 
 import given
@@ -583,6 +583,176 @@ def own_line_refusals():
     refuse(13, given.faulty_records(chance, 64))
 
 
+# --- Solid pole tide ---
+
+HALF = Fraction(1, 2)
+
+# 001's a and b, in 10^-9 for an arcsecond, a count for a micro-arcsecond: C21 takes -a*(xp + b*yp), S21 a*(yp - b*xp). And its Love numbers.
+POLE = {t.ELASTIC: (Fraction('1.290'), Fraction(0)), t.ANELASTIC: (Fraction('1.348'), Fraction('0.0112'))}
+POLE_LOVE = {t.ELASTIC: 0.2977, t.ANELASTIC: 0.3111 - 0.0035j}
+
+
+def pole_factors(a, b):
+    """The factors of xp and yp, for C21 and for S21."""
+    return (-a, -a * b), (-a * b, a)
+
+
+def pole_exact(xp, yp, love):
+    return [by_xp * xp + by_yp * yp for by_xp, by_yp in pole_factors(*POLE[love])]
+
+
+def by_potential(xp, yp, love):
+    """C21 and S21 in counts, as floats, from 001's potential: C21 - i*S21 is -W^2*R^3/(GM*sqrt(15)) times k*(xp + i*yp), in radians."""
+    value = -7.292115e-5**2 * 6378136.3**3 / (3.986004415e14 * sqrt(15)) * POLE_LOVE[love] * complex(xp, yp) * pi / 648_000e6 * 1e15
+    return value.real, -value.imag
+
+
+def check_pole(xp, yp, love, N=4):
+    """Offsets on one field: each correction against 001's decimals and its potential, and every entry after the call. Answers the two."""
+    exact, two = pole_exact(xp, yp, love), t.pole_corrections(xp, yp, love)
+    *sums, divisor = t.pole_sums(xp, yp, love)
+    expect('pole tide', [Fraction(total, divisor) for total in sums], exact)
+    expect('pole tide', two, tuple(floor(value + HALF) for value in exact))     # a half goes up, whatever its sign
+    for correction, value, real in zip(two, exact, by_potential(xp, yp, love), strict=True):
+        within('pole tide', abs(correction - value), HALF)
+        within('pole tide by the potential', abs(correction - real) / 10**6, 0.001)                 # the decimals' last digits, at full offsets
+    turned, opposite = t.pole_corrections(-yp, xp, love), t.pole_corrections(-xp, -yp, love)
+    expect('pole tide', turned[0], two[1])                                      # the pole a quarter turn further on
+    expect('pole tide', [*map(add, two, opposite)], [int(value % 1 == HALF) for value in exact])    # the sign is in the fraction that is rounded
+    C, S = random_field(N)
+    number, C2, S2 = t.pole_tide(N, C, S, xp, yp, love)
+    expect('pole tide', (number, differences(C, C2), differences(S, S2)), (0, *changes_of((0, *two, 0, 0), N)))
+    return two
+
+
+def are_halves(xp, yp, love):
+    """Whether the program's C21 and its S21 are exact halves."""
+    *sums, divisor = t.pole_sums(xp, yp, love)
+    return [2 * total % (2 * divisor) == divisor for total in sums]
+
+
+def pole_halves():
+    """Exact halves are where telling.beside_halves says, not elsewhere: over a period of xp and yp, or of k and the other, and at any offsets."""
+    for xp, yp in product(range(100), repeat=2):
+        expect('pole tide', are_halves(xp, yp, t.ELASTIC), [xp % 100 == 50, yp % 100 == 50])
+    for k, offset in product(range(250), repeat=2):
+        assert are_halves(offset, 625 * k, t.ANELASTIC)[0] == (offset == (125 - 7 * k) % 250)
+        assert are_halves(625 * k, offset, t.ANELASTIC)[1] == (offset == (125 + 7 * k) % 250)
+    for _ in range(5000):
+        xp, yp = given.offsets(chance)
+        halves = [yp % 625 == 0 and (xp + 7 * yp // 625) % 250 == 125, xp % 625 == 0 and (yp - 7 * xp // 625) % 250 == 125]
+        expect('pole tide', are_halves(xp, yp, t.ANELASTIC), halves)
+    for (love, step), steps, _ in product(((t.ELASTIC, Fraction(1, 100)), (t.ANELASTIC, Fraction(1, 156250))), range(-2, 3), range(20)):
+        pairs = telling.beside_halves(love, steps, *(chance.between(-999_000, 999_000) for _ in range(2)))
+        for which, pair in enumerate(pairs):
+            value = pole_exact(*pair, love)[which]
+            expect('pole tide', value % 2, HALF + steps * step)
+            expect('pole tide', check_pole(*pair, love)[which], floor(value) + (steps >= 0))
+
+
+def pole_by(rule, xp, yp, love):
+    """T-05 on a field of zeros by a rule that can be changed: how the offsets are read, their ends, each formula's factors and rounding, and the
+    places corrected, each a list, an index and the formula."""
+    xp, yp = rule['read'](xp, yp)
+    low_x, high_x, low_y, high_y = rule['ends']
+    lists = [0] * 15, [0] * 15
+    if not (low_x <= xp <= high_x and low_y <= yp <= high_y):
+        return 15, *lists
+    for which, at, formula in rule['places']:
+        by_xp, by_yp = rule['factors', love, formula]
+        lists[which][at] += rule['rounding', love, formula](by_xp * xp, by_yp * yp)
+    return 0, *lists
+
+
+def in_steps(one, two, steps):
+    """The sum rounded to so many steps of a count first."""
+    return floor(Fraction(floor(steps * (one + two) + HALF), steps) + HALF)
+
+
+WRONG_ROUNDINGS = (
+    lambda one, two: floor(one + two),
+    lambda one, two: ceil(one + two),
+    lambda one, two: trunc(one + two),
+    lambda one, two: trunc(one + two + HALF),
+    lambda one, two: round(one + two),                                          # half to even
+    lambda one, two: -floor(HALF - one - two),                                  # half down: minus the nearest of minus
+    lambda one, two: trunc(one + two + (HALF if one + two > 0 else -HALF)),     # half away from zero
+    lambda one, two: in_steps(one, two, 10))
+
+# The elastic formulas have one part, in whole hundredths.
+WRONG_ANELASTIC = lambda one, two: floor(one + HALF) + floor(two + HALF), lambda one, two: in_steps(one, two, 10_000)
+
+
+def pole_slips():
+    """T-05 told by the stored calls from each rule with one piece changed."""
+    cut = lambda offset: (offset + (1 << 31)) % (1 << 32) - (1 << 31)           # to 32 bits
+    unsized = lambda offset: 0 if offset == -(1 << 63) else offset              # whose size is no 64-bit number
+    right = {'read': lambda xp, yp: (xp, yp), 'ends': (-1_000_000, 1_000_000) * 2, 'places': [(0, 4, 0), (1, 4, 1)]}
+    slips = [('read', read) for read in (
+        lambda xp, yp: (yp, xp), lambda xp, yp: (cut(xp), yp), lambda xp, yp: (xp, cut(yp)),
+        lambda xp, yp: (unsized(xp), yp), lambda xp, yp: (xp, unsized(yp)))]
+    slips += [('ends', given.spoilt(right['ends'], i, wrong)) for i, end in enumerate(right['ends']) for wrong in (end - 1, end + 1, end * inf)]
+    slips += [('places', places) for places in (
+        [(1, 4, 0), (0, 4, 1)], [(0, 4, 0)], [(1, 4, 1)],                                               # C and S exchanged, one alone
+        *(given.spoilt(right['places'], i, (i, at, i)) for i in range(2) for at in (2, 3, 5, 7)),       # another place
+        *([*right['places'], (which, at, which)] for which in range(2) for at in (3, 5)))]              # another too, S20 among them
+    for love, formula in product(LOVES, range(2)):
+        a, b = POLE[love]
+        by_xp, by_yp = factors = pole_factors(a, b)[formula]
+        right['factors', love, formula], right['rounding', love, formula] = factors, lambda one, two: floor(one + two + HALF)
+        last_a, last_b = Fraction(1, 1000), Fraction(1, 10_000)
+        decimals = (a + last_a, b), (a - last_a, b), (a, b + last_b), (a, b - last_b), (a, 10 * b), (a, b / 10), (a, 0), *POLE.values()
+        wrong = [(by_yp, by_xp), (-by_xp, by_yp), (by_xp, -by_yp), (-by_xp, -by_yp), pole_factors(a, b)[1 - formula]]
+        wrong += [pole_factors(*two)[formula] for two in decimals]
+        slips += [(('factors', love, formula), pair) for pair in wrong if pair != factors]
+        slips += [(('rounding', love, formula), rounding) for rounding in WRONG_ROUNDINGS + WRONG_ANELASTIC * (love == t.ANELASTIC)]
+    calls = [*telling.pole_calls()]
+    answers = [t.pole_tide(4, [0] * 15, [0] * 15, *call) for call in calls]
+    expect('pole slips', [pole_by(right, *call) for call in calls], answers)
+    for piece, wrong in slips:
+        told = any(pole_by({**right, piece: wrong}, *call) != answer for call, answer in zip(calls, answers, strict=True))
+        expect('pole slips', (piece, wrong, told), (piece, wrong, True))
+
+
+def pole_tide():
+    for love in LOVES:
+        for N in (4, 5, 60):
+            expect('pole tide', check_pole(0, 0, love, N), (0, 0))
+        for xp, yp in (*product((-1_000_000, -1, 1, 1_000_000), repeat=2), *(given.offsets(chance) for _ in range(1000))):
+            check_pole(xp, yp, love, chance.between(5, 60) if chance.one_in(50) else 4)
+    pole_halves()
+    pole_slips()
+    offset_refusals()
+
+
+def offset_refusals():
+    """15 beyond either end of either offset, 1 and 2 before it, and nothing changed; the ends pass."""
+    def answer(number, *offsets):
+        N, love = chance.one(4, 4, 12), chance.one(*LOVES)
+        C, S = random_field(N)
+        call = lambda *field: t.pole_tide(*field, *offsets, love)
+        got, C2, S2 = call(N, C, S)
+        expect('pole tide', got, number)
+        assert number == 0 or (C2, S2) == (C, S)
+        expect('pole tide', call(N, C[1:], S), (1, C[1:], S))
+        expect('pole tide', call(3, C, S), (1, C, S))
+        spoilt = given.spoilt(C, chance.below(len(C)), chance.one((1 << 60) + 1, -(1 << 63)))
+        expect('pole tide', (call(N, spoilt, S), call(N, S, spoilt)), ((2, spoilt, S), (2, S, spoilt)))
+
+    for pair in (*product((-1_000_000, -999_999, 0, 999_999, 1_000_000), repeat=2), *(given.offsets(chance) for _ in range(100))):
+        answer(0, *pair)
+    asked = 1_000_001, -1_000_001, (1 << 63) - 1, -(1 << 63)
+    expect('pole tide', [far for far in asked if far not in given.FAR_OFFSETS], [])
+    for far, near in product(given.FAR_OFFSETS, (0, 1, 1_000_000, -1_000_000, *given.FAR_OFFSETS)):
+        answer(15, far, near)
+        answer(15, near, far)
+    for _ in range(200):
+        answer(15, *given.faulty_offsets(chance))
+    rising = t.pole_tide(4, [1 << 60] * 15, [1 << 60] * 15, -1_000_000, 1_000_000, t.ELASTIC)       # an entry may leave the range of 2
+    expect('pole tide', (rising[0], rising[1][4] > 1 << 60, rising[2][4] > 1 << 60), (0, True, True))
+    expect('pole tide', t.pole_tide(4, *rising[1:], 0, 0, t.ELASTIC), (2, *rising[1:]))
+
+
 # --- Ocean ---
 
 def sheet_faults():
@@ -759,6 +929,7 @@ def main():
     step_one_values()
     step_one_refusals()
     own_lines(hardest)
+    pole_tide()
     day()
     seen = ', '.join(f'{kind} {count}' for kind, count in counts.items())
     errors = ', '.join(f'{kind} {float(error):.6f}' for kind, error in worst.items())

@@ -1,4 +1,4 @@
-"""What is given to the calls: fields, phases, selections, bodies, records and sheets, drawn by a Chance."""
+"""What is given to the calls: fields, phases, selections, bodies, records, pole offsets and sheets, drawn by a Chance."""
 
 import struct
 from math import inf, nan, nextafter
@@ -161,6 +161,32 @@ def faulty_records(chance, count):
     faults = [*record_faults()]
     return [tuple(chance.one(*ends) for ends in WIDTHS) if chance.one_in(4) else spoilt_record(record(chance), *chance.one(*faults))
             for _ in range(count)]
+
+
+# --- Pole offsets ---
+
+OFFSET_EDGE = 1_000_000          # micro-arcseconds
+
+# Refusal 15: beside either end, the ends of 64 bits, what 32 bits cut to an offset in range, and one whose products are 0 in 64 bits.
+FAR_OFFSETS = (
+    OFFSET_EDGE + 1, -OFFSET_EDGE - 1, -1 - LEAST_64, LEAST_64, 1 << 32, (1 << 32) + 5, -(1 << 32) - 7, (1 << 32) + OFFSET_EDGE,
+    -(1 << 32) - OFFSET_EDGE, 1 << 58)
+
+
+def offset(chance):
+    anywhere = chance.between(-OFFSET_EDGE, OFFSET_EDGE)
+    return chance.one(anywhere, anywhere, anywhere, chance.between(-99, 99), chance.one(OFFSET_EDGE, -OFFSET_EDGE, 0))
+
+
+def offsets(chance):
+    """xp and yp in their range."""
+    return offset(chance), offset(chance)
+
+
+def faulty_offsets(chance):
+    """xp and yp, one or both out of range."""
+    far = lambda: chance.one(*FAR_OFFSETS, chance.one(1, -1) * chance.between(OFFSET_EDGE + 1, -1 - LEAST_64))
+    return chance.one((far(), offset(chance)), (offset(chance), far()), (far(), far()))
 
 
 # --- Sheets ---

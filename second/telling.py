@@ -4,11 +4,11 @@ A slip in step one's order of operations moves a product by a last bit or two. T
 of a product that is a whole number and a half, or the float next to such a one, does.
 """
 
-from itertools import product
+from itertools import cycle, product
 from math import asin, floor, inf, nextafter, sqrt
 
 import tides as t
-from given import placed
+from given import FAR_OFFSETS, OFFSET_EDGE, placed
 
 # --- Step one ---
 
@@ -240,3 +240,40 @@ def small_records():
 # A record for each band, that of the diurnal one twice; at the phases of the day above they give these five, which were made with doubles too.
 OWN_RECORDS = [(0, 2, 0, 0, 0, 0, 37, -12), (1, -1, 0, 0, 0, 0, -250, 31), (1, -1, 0, 0, 0, 0, -250, 31), (2, -1, 0, 1, 0, 0, 18, 45)]
 OWN_FIVE = 3095, 6381, -49977, 4839, 277
+
+
+# --- Solid pole tide ---
+
+def beside_halves(love, steps, xp, yp):
+    """Offsets, by the next above these, at which C21 is an even number and a half and so many steps of its fraction more; then those for S21.
+
+    In lowest terms C21 is -129*xp/100 elastic, -337*(625*xp + 7*yp)/156250 anelastic; S21 at xp, yp is C21 at -yp, xp. So each of the four has
+    exact halves: elastic where xp, for S21 yp, is 50 modulo 100; anelastic where 625*xp + 7*yp is an odd multiple of 5^7, that is where yp is
+    625*k and xp is 125 - 7*k modulo 250, and for S21 where xp is 625*k and yp is 125 + 7*k modulo 250.
+    """
+    above = lambda offset, rest, modulus: offset + (rest - offset) % modulus
+    if love == t.ELASTIC:
+        xp = above(xp, -(50 + steps) * pow(129, -1, 200), 200)
+    else:
+        total = -(78125 + steps) * pow(337, -1, 312500)                 # 625*xp + 7*yp, modulo 312500
+        yp = above(yp, total * pow(7, -1, 625), 625)
+        xp = above(xp, (total - 7 * yp) // 625, 500)
+    return (xp, yp), (yp, -xp)
+
+
+POLE_OFFSETS = (46_000, 294_000), (-123_457, 345_678), (-7, -11), (0, 40), (0, 0)      # the angles that 001 begins with, any, and small ones
+HALVES_NEAR = (0, 123_456, 654_321), (0, -789_123, 321_987), (-1, -234_567, -567_891), (1, 876_543, -543_219)      # steps, xp, yp
+
+
+def pole_calls():
+    """xp, yp and the Love model: those above, the ends, each formula at a half of either sign and a step beside halves; then refused ones.
+
+    They tell T-05's rule from each with one number, sign, rounding, end or place changed (check.py holds them to that).
+    """
+    for love in (t.ELASTIC, t.ANELASTIC):
+        halves = (pair for steps_near in HALVES_NEAR for pair in beside_halves(love, *steps_near))
+        for pair in (*POLE_OFFSETS, *product((OFFSET_EDGE, -OFFSET_EDGE), repeat=2), *halves):
+            yield *pair, love
+    for far, love in zip(FAR_OFFSETS, cycle((t.ELASTIC, t.ANELASTIC))):
+        yield far, 12_345, love
+        yield 12_345, far, love

@@ -1,4 +1,4 @@
-"""Tide corrections to a gravity field: a second program, written from the description (01, and T-01, T-02 and T-04 of 02) alone.
+"""Tide corrections to a gravity field: a second program, written from the description (01, and T-01, T-02, T-04 and T-05 of 02) alone.
 
 Coefficients are whole counts of 10^-15. Every call that can refuse answers the refusal number first, 0 where it accepts.
 Whole numbers and Fractions throughout; floats (IEEE binary64) only in step one.
@@ -314,6 +314,37 @@ def own_lines(N, C, S, records, phases):
     if refusal:
         return refusal, list(C), list(S)
     return 0, *added_five(C, S, own_line_corrections(records, phases))
+
+
+# --- Solid pole tide (02, T-05) ---
+
+OFFSET_BOUND = MILLION           # micro-arcseconds
+
+
+def offsets_test(xp, yp):
+    """'Solid pole tide', refusal 15: an offset that is not "within ±1,000,000"."""
+    return 0 if all(abs(offset) <= OFFSET_BOUND for offset in (xp, yp)) else 15
+
+
+def pole_sums(xp, yp, love):
+    """'Solid pole tide': what C21 and S21 take, each with its sign, and the divisor that makes either counts; nothing rounded."""
+    if love == ELASTIC:
+        return -1290 * xp, 1290 * yp, 1000
+    return -1348 * (10000 * xp + 112 * yp), 1348 * (10000 * yp - 112 * xp), 10**7
+
+
+def pole_corrections(xp, yp, love):
+    """'Solid pole tide': the corrections to C21, S21 in counts, "one rounding each"."""
+    *sums, divisor = pole_sums(xp, yp, love)
+    return tuple(nearest(total, divisor) for total in sums)
+
+
+def pole_tide(N, C, S, xp, yp, love):
+    """'Solid pole tide' on a field: (number, C after, S after); refusals 1, 2, 15."""
+    refusal = field_test(N, C, S) or offsets_test(xp, yp)
+    if refusal:
+        return refusal, list(C), list(S)
+    return 0, *added(C, S, [(2, 1, *pole_corrections(xp, yp, love))])
 
 
 # --- Model sheet and ocean tide ---

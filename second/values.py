@@ -115,6 +115,11 @@ def ocean_tide(sheet, phases, frame):
     return 6, 'ocean_tide', data, lambda N, C, S: t.ocean(N, C, S, sheet, phases, frame)
 
 
+def pole_tide(xp, yp, love):
+    data = bytes((LOVES.index(love),)) + struct.pack('<2q', xp, yp)
+    return 7, 'pole_tide', data, lambda N, C, S: t.pole_tide(N, C, S, xp, yp, love)
+
+
 ZEROS = 4, [0] * 15, [0] * 15
 
 
@@ -131,6 +136,15 @@ def field_edges(call):
     for N in (5, 17):
         over_field(*given.varied_field(chance, N), call)
     over_field(*over_field(*given.varied_field(chance, 4), call), call)         # a second call adds as the first did
+
+
+def fields_first(call):
+    """1 and 2 before the number that the call is refused with on any other field."""
+    for N, c in ((3, 15), (61, 15), (4, 14)):
+        over_field(N, [5] * c, [6] * 15, call)
+    for entry in (EDGE + 1, LEAST_64):
+        over_field(4, spoilt(ZEROS[1], chance.below(15), entry), ZEROS[2], call)
+        over_field(4, ZEROS[1], spoilt(ZEROS[2], chance.below(15), entry), call)
 
 
 def bodies():
@@ -294,11 +308,20 @@ def selections():
     for selection in (*given.ABOVE, 1 << 49 | 1, 1 << 63 | t.ALL_LINES, (1 << 64) - 1, (1 << 64) - (1 << 49)):
         over_field(*ZEROS, step_two(telling.LINE_PHASES, chance.one(*LOVES), selection))
     over_field(*varied(), over)
-    for N, c in ((3, 15), (61, 15), (4, 14)):
-        over_field(N, [5] * c, [6] * 15, over)
-    for entry in (EDGE + 1, LEAST_64):
-        over_field(4, spoilt(ZEROS[1], chance.below(15), entry), ZEROS[2], over)
-        over_field(4, ZEROS[1], spoilt(ZEROS[2], chance.below(15), entry), over)
+    fields_first(over)
+
+
+# --- Solid pole tide ---
+
+def pole():
+    """Offsets that tell slips, the ends and one beyond among them; 15, and 1 and 2 before it; a result out of the field's range, lent again."""
+    field_edges(pole_tide(*telling.POLE_OFFSETS[1], t.ANELASTIC))
+    for one in telling.pole_calls():
+        over_field(*chance.one(ZEROS, given.varied_field(chance, 4)), pole_tide(*one))
+    fields_first(pole_tide(*given.faulty_offsets(chance), t.ELASTIC))
+    rising = pole_tide(-given.OFFSET_EDGE, given.OFFSET_EDGE, t.ELASTIC)        # both corrections are above 0
+    over_field(*over_field(4, [EDGE] * 15, [EDGE] * 15, rising), rising)
+    over_field(*given.varied_field(chance, 60), pole_tide(*given.offsets(chance), t.ANELASTIC))
 
 
 def main():
@@ -307,6 +330,7 @@ def main():
     ocean()
     own()
     selections()
+    pole()
     in_lines = lambda texts: ''.join(text + '\n' for text in texts).encode('ascii')
     files = {'crates/run/stdin': struct.pack('<I', len(cases)) + b''.join(cases), 'crates/run/stdout': in_lines(lines),
              'tests/boundary/stored.txt': in_lines(worded)}

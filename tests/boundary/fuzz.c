@@ -7,8 +7,8 @@
 #include "lent.h"
 #include "model.h"
 
-enum { STEP_ONE, STEP_TWO, OWN_LINES, OCEAN_TIDE, MOVE_C20, MULTIPLIERS_OF, NUMBER_OF, FIND_LINE, CALLS };
-static const char *names[CALLS] = {"step_one", "step_two", "own_lines", "ocean_tide", "move_c20", "multipliers_of", "number_of", "find_line"};
+enum { STEP_ONE, STEP_TWO, OWN_LINES, POLE_TIDE, OCEAN_TIDE, MOVE_C20, MULTIPLIERS_OF, NUMBER_OF, FIND_LINE, CALLS };
+static const char *names[CALLS] = {"step_one", "step_two", "own_lines", "pole_tide", "ocean_tide", "move_c20", "multipliers_of", "number_of", "find_line"};
 static long answered[CALLS][101], differences;
 
 /* xorshift64*, the seed fixed */
@@ -184,6 +184,24 @@ static uint64_t selection(void)
     }
     if (one_in(12)) chosen |= one_in(2) ? UINT64_C(1) << (49 + below(15)) : any();
     return chosen;
+}
+
+/* an offset, some in the fifties, where the elastic model has its halves; one in twelve beyond an arcsecond, up to its width */
+static int64_t offset(void)
+{
+    static const int64_t ends[] = {1000000, -1000000, 1000001, -1000001, INT64_C(1) << 32, -(INT64_C(1) << 32), (INT64_C(1) << 62) + 5, INT64_MAX, INT64_MIN,
+        INT64_MIN + 1000000};
+    if (one_in(12)) return one_in(8) ? (int64_t)any() : ends[below(10)];
+    if (one_in(4)) return 100 * within(9999) + 50;
+    return within(one_in(4) ? 100 : 1000000);
+}
+
+/* 10000 x + 112 y a multiple of 1250000, as where the anelastic model has its halves: y is one of 625, and x then one in 125 */
+static void to_a_half_offset(int64_t *x, int64_t *y)
+{
+    *y = 625 * within(1600);
+    *x = within(999000);
+    for (int i = 0; i < 125 && (10000 * *x + 112 * *y) % 1250000; i++) ++*x;
 }
 
 static int32_t multiplier(void) { return (int32_t)within(one_in(4) ? 3 : 13); }
@@ -363,6 +381,13 @@ static void over_field(int call)
         answer = surfgimlet_own_lines(n, or_null(&c), c.length, or_null(&s), s.length, lines.count || one_in(2) ? at + 1 : NULL, lines.count, f);
         told = model_own_lines(n, entries(&c2), c2.length, entries(&s2), s2.length, lines.all + 1, lines.count, f);
         if (memcmp(at, lines.all, length)) { differences++; puts("own_lines: the records are changed"); }
+    } else if (call == POLE_TIDE) {
+        int64_t xp = offset(), yp = offset();
+        uint32_t love = choice(2);
+        if (one_in(8)) to_a_half_offset(&xp, &yp);
+        else if (one_in(8)) { to_a_half_offset(&yp, &xp); xp = -xp; }
+        answer = surfgimlet_pole_tide(n, or_null(&c), c.length, or_null(&s), s.length, xp, yp, love);
+        told = model_pole_tide(n, entries(&c2), c2.length, entries(&s2), s2.length, xp, yp, love);
     } else if (call == STEP_ONE) {
         surfgimlet_body moon = body(3.8e8, 0.0123), sun = body(1.5e11, 332946);
         uint32_t love = choice(2);
@@ -442,7 +467,7 @@ static void alone(int call)
 int main(int argc, char **argv)
 {
     static const int numbers[CALLS][12] = {{0, 1, 2, 3, 4, 5, 6, 100, -1}, {0, 1, 2, 14, 100, -1}, {0, 1, 2, 12, 13, -1},
-        {0, 1, 2, 7, 8, 9, 100, -1}, {0, 2, 100, -1}, {0, 10, -1}, {0, 10, -1}, {0, 10, 11, -1}};
+        {0, 1, 2, 15, 100, -1}, {0, 1, 2, 7, 8, 9, 100, -1}, {0, 2, 100, -1}, {0, 10, -1}, {0, 10, -1}, {0, 10, 11, -1}};
     long count = argc > 1 ? atol(argv[1]) : 1000000, missing = 0;
     if (surfgimlet_all_lines() != (UINT64_C(1) << 49) - 1 || surfgimlet_major_lines() != model_major_lines()) {
         differences++;
@@ -450,11 +475,12 @@ int main(int argc, char **argv)
     }
     waves(200000);
     for (long i = 0; i < count; i++) {
-        uint64_t pick = below(24);
+        uint64_t pick = below(26);
         if (pick < 8) over_field(OCEAN_TIDE);
         else if (pick < 12) over_field(STEP_ONE);
         else if (pick < 15) over_field(STEP_TWO);
         else if (pick < 19) over_field(OWN_LINES);
+        else if (pick < 21) over_field(POLE_TIDE);
         else alone(MOVE_C20 + (int)below(4));
     }
     for (int call = 0; call < CALLS; call++) {

@@ -205,6 +205,19 @@ static uint32_t model_own_lines(uint32_t n, int64_t *c, size_t c_length, int64_t
     return 0;
 }
 
+/* ---- solid pole tide */
+
+static uint32_t model_pole_tide(uint32_t n, int64_t *c, size_t c_length, int64_t *s, size_t s_length, int64_t xp, int64_t yp, uint32_t love)
+{
+    uint32_t refusal;
+    if (love > 1) return 100;
+    if ((refusal = model_field(n, c, c_length, s, s_length))) return refusal;
+    if (xp < -1000000 || xp > 1000000 || yp < -1000000 || yp > 1000000) return 15;
+    c[model_place(2, 1)] += love ? model_nearest(-1348 * (10000 * xp + 112 * yp), 10000000) : model_nearest(-1290 * xp, 1000);
+    s[model_place(2, 1)] += love ? model_nearest(1348 * (10000 * yp - 112 * xp), 10000000) : model_nearest(1290 * yp, 1000);
+    return 0;
+}
+
 /* ---- permanent systems */
 
 static int64_t model_permanent(uint32_t love) { return love ? -4200675 : -4108147; }

@@ -41,6 +41,7 @@ static void nothing(void) { answer = 0; }
 static void step_one(void) { answer = surfgimlet_step_one(60, c, 1891, s, 1891, moon, moon, 1); }
 static void step_two(void) { answer = surfgimlet_step_two(60, c, 1891, s, 1891, b, 1, surfgimlet_all_lines(), &number); }
 static void own_lines(void) { answer = surfgimlet_own_lines(60, c, 1891, s, 1891, lines, 64, b); }
+static void pole_tide(void) { answer = surfgimlet_pole_tide(60, c, 1891, s, 1891, 123456, -654321, 1); }
 static void ocean_tide(void) { answer = surfgimlet_ocean_tide(60, c, 1891, s, 1891, sheet, sheet_length, b, 0); }
 static void move_c20(void) { answer = surfgimlet_move_c20(0, 0, 2, 1, &moved); }
 static void multipliers_of(void) { answer = surfgimlet_multipliers_of(165555, multipliers); }
@@ -64,8 +65,8 @@ static size_t taken(void (*call)(void))
 int main(void)
 {
     static const struct { const char *name; void (*call)(void); } calls[] = {{"step_one", step_one}, {"step_two", step_two},
-        {"own_lines", own_lines}, {"ocean_tide", ocean_tide}, {"move_c20", move_c20}, {"multipliers_of", multipliers_of}, {"number_of", number_of},
-        {"find_line", find_line}};
+        {"own_lines", own_lines}, {"pole_tide", pole_tide}, {"ocean_tide", ocean_tide}, {"move_c20", move_c20}, {"multipliers_of", multipliers_of},
+        {"number_of", number_of}, {"find_line", find_line}};
     size_t deepest = 0, frame;
     fill();
     frame = taken(nothing);

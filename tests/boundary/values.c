@@ -7,11 +7,11 @@
 
 #define LEAST 21000 /* cases, so that an input cut short is noticed */
 
-enum { STEP_ONE, STEP_TWO, OWN_LINES, OCEAN_TIDE, MOVE_C20, MULTIPLIERS_OF, NUMBER_OF, FIND_LINE, ALL_LINES, MAJOR_LINES, CALLS };
-static const char *names[CALLS] = {"step_one", "step_two", "own_lines", "ocean_tide", "move_c20", "multipliers_of", "number_of", "find_line",
+enum { STEP_ONE, STEP_TWO, OWN_LINES, POLE_TIDE, OCEAN_TIDE, MOVE_C20, MULTIPLIERS_OF, NUMBER_OF, FIND_LINE, ALL_LINES, MAJOR_LINES, CALLS };
+static const char *names[CALLS] = {"step_one", "step_two", "own_lines", "pole_tide", "ocean_tide", "move_c20", "multipliers_of", "number_of", "find_line",
     "all_lines", "major_lines"};
 static const int numbers[CALLS][10] = {{0, 1, 2, 3, 4, 5, 6, 100, -1}, {0, 1, 2, 14, 100, -1}, {0, 1, 2, 12, 13, -1},
-    {0, 1, 2, 7, 8, 9, 100, -1}, {0, 2, 100, -1}, {0, 10, -1}, {0, 10, -1}, {0, 10, 11, -1}, {0, -1}, {0, -1}};
+    {0, 1, 2, 15, 100, -1}, {0, 1, 2, 7, 8, 9, 100, -1}, {0, 2, 100, -1}, {0, 10, -1}, {0, 10, -1}, {0, 10, 11, -1}, {0, -1}, {0, -1}};
 static long answered[CALLS][101], cases, differences;
 
 static uint32_t n;
@@ -127,6 +127,9 @@ static void over_field(int call)
         b = phases();
         memcpy(&kept, &lines, sizeof lines);
         answer = surfgimlet_own_lines(n, or_null(&c), c.length, or_null(&s), s.length, lines.count ? lines.all + 1 : NULL, lines.count, b);
+    } else if (call == POLE_TIDE) {
+        int64_t xp = word(), yp = word();
+        answer = surfgimlet_pole_tide(n, or_null(&c), c.length, or_null(&s), s.length, xp, yp, choice);
     } else {
         surfgimlet_phases b = phases();
         size_t length = sheet(bytes);

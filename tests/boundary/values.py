@@ -49,6 +49,10 @@ def own_lines(records, phases):
     return 'own_lines', records, phases
 
 
+def pole_tide(xp, yp, love):
+    return 'pole_tide', love, xp, yp
+
+
 def either(call, *args):
     """The call with either Love model or frame."""
     return [call(*args, 0), call(*args, 1)]
@@ -73,6 +77,9 @@ def on_field(call, N, C, S):
     elif name == 'step_two':
         if named(LOVES, choice):
             return t.step_two(N, C, S, rest[0], named(LOVES, choice), rest[1])
+    elif name == 'pole_tide':
+        if named(LOVES, choice):
+            return t.pole_tide(N, C, S, *rest, named(LOVES, choice))
     elif named(FRAMES, choice):
         return t.ocean(N, C, S, rest[1], rest[0], named(FRAMES, choice))
     return NO_SUCH_CHOICE, C, S
@@ -122,6 +129,8 @@ def given_words(call):
         return name, choice, *(word for kind, *floats in rest for word in (kind, *map(bits, floats)))
     if name == 'step_two':
         return name, choice, *rest[0], rest[1]
+    if name == 'pole_tide':
+        return call
     return name, choice, *rest[0], len(rest[1]), rest[1].hex() or '-'
 
 
@@ -436,6 +445,51 @@ def own_lists():
         yield g.any_field(chance, N), calls
 
 
+# --- Solid pole tide ---
+
+def some_pole(offsets):
+    return pole_tide(*offsets, some_love())
+
+
+def offsets_refused():
+    """15 for either offset and for both, between calls that pass; and 100, 1 and 2 before it."""
+    fields = [g.varied_field(chance, N) for N in (4, 5, 12)]
+    far = [pair for one in g.FAR_OFFSETS for pair in ((one, g.offset(chance)), (g.offset(chance), one), (one, one))]
+    for i, pair in enumerate(far + [g.faulty_offsets(chance) for _ in range(30)]):
+        yield fields[i % 3], [*either(pole_tide, *pair), some_pole(g.offsets(chance)), some_pole(pair)]
+    for pair in ((g.OFFSET_EDGE, -g.OFFSET_EDGE), *(g.faulty_offsets(chance) for _ in range(4))):
+        yield from choices(some_pole(pair))
+        yield from some_fields(some_pole(pair))
+
+
+def offsets_alone():
+    """Offsets that tell slips, small ones, one alone at every power of two, and each formula at halves and some steps beside them."""
+    yield from in_row([pole_tide(xp, yp, LOVES.index(love)) for xp, yp, love in telling.pole_calls()], 9, ZEROS, g.varied_field(chance, 4))
+    one_alone = [pair for k in range(2, 20) for one in (1 << k, -1 << k) for pair in ((one, 0), (0, one))]
+    yield from in_row([call for pair in [*product(range(-3, 4), repeat=2), *one_alone] for call in either(pole_tide, *pair)], 18, ZEROS)
+    near = lambda: chance.between(-g.OFFSET_EDGE, g.OFFSET_EDGE - 625)
+    for love, steps in product(range(2), (-5, -2, -1, 0, 0, 0, 1, 2)):
+        yield ZEROS, [pole_tide(*pair, love) for _ in range(8) for pair in telling.beside_halves(LOVES[love], steps, near(), near())]
+
+
+def pole_offsets():
+    """Offsets of every kind, on fields of every kind; and many calls on one field, others between them."""
+    for _ in range(80):
+        yield g.varied_field(chance, chance.between(4, 12)), either(pole_tide, *g.offsets(chance))
+        yield g.any_field(chance, chance.between(4, 14)), [some_pole(g.offsets(chance)), some_pole(g.offsets(chance))]
+    for _ in range(20):
+        call = lambda: some_pole(g.faulty_offsets(chance) if chance.one_in(5) else g.offsets(chance))
+        between = [step_one(g.moon(chance), g.sun(chance), some_love()), some_lines(g.selection(chance)),
+                   some_own(g.records(chance, chance.below(9))), some_ocean(g.write_sheet(*g.sheet(chance, 2, 2, 4, 4)))]
+        yield g.varied_field(chance, chance.between(4, 6)), [one for other in between for one in (call(), call(), other)] + [call()]
+    for N in (4, 5, 17, 60):                                            # on its own result, and refused with 2 where that left the range
+        for edge in (g.EDGE, -g.EDGE):
+            calls = [some_pole(g.offsets(chance)), some_pole((0, 0)), some_pole(g.faulty_offsets(chance))]
+            yield (N, [edge] * t.size(N), [-edge] * t.size(N)), calls
+            yield (N, [edge] * t.size(N), [edge] * t.size(N)), calls
+        yield g.any_field(chance, N), calls
+
+
 # --- Ocean tide ---
 
 def some_ocean(data):
@@ -553,6 +607,11 @@ def cases():
         yield from part()
     yield from fields(own_lines(telling.OWN_RECORDS, (1, 2, 3, 4, 5, 6)))
     for part in (records_refused, own_waves, own_lists, selections):
+        yield from part()
+    pole = pole_tide(*telling.POLE_OFFSETS[1], 1)
+    yield from fields(pole)
+    yield from choices(pole)
+    for part in (offsets_refused, offsets_alone, pole_offsets):
         yield from part()
 
 

@@ -15,11 +15,15 @@ use Rattle.crossing.specs.Inner.{names, Converts}
 use Rattle.crossing.proofs.Choices.{hundred, one-named, one-missing, three-named, three-missing}
 use Rattle.permanent.specs.Systems.{movedC20}
 use Rattle.leaving.specs.Leaving.{Leaves, GivesAndLeaves}
-use Rattle.refusals.specs.Outcome.{Outcome, GivesValue}
+use Rattle.refusals.specs.Outcome.{Outcome, Gives, GivesValue}
 use Rattle.refusals.specs.Told.{Told}
 use Rattle.refusals.specs.Told.Told.{accepted, refused}
-use Rattle.surfgimlet.specs.Calls.{stepOne, stepTwo, oceanTide}
-use Rattle.boundary.specs.Calls.{outcomeOf, stepOneGiven, stepTwoGiven, oceanGiven, moveGiven}
+use Rattle.surfgimlet.specs.Calls.{stepOne, stepTwo, poleTide, oceanTide}
+use Rattle.boundary.specs.Calls.{outcomeOf, stepOneGiven, stepTwoGiven, poleGiven, oceanGiven, moveGiven}
+
+-- the outcome in other words
+pub gives-same : {o o′ : Outcome} {k : ℕ} {c s : List ℤ} → o ≡ o′ → Gives o k c s → Gives o′ k c s
+gives-same {o} {o′} {k} {c} {s} e g = subst (λ (o : Outcome). Gives o k c s) e g
 
 -- a value that is told, left
 pub told-and-left : {A : Type 0} {o : Outcome} {value : A} {told : Told A} {c s : List ℤ} {number : ℕ} {before after : A} → GivesValue o value told c s → Leaves told before number after → GivesAndLeaves o value number c s before after
@@ -39,6 +43,15 @@ module _ (n : ℕ) (c s : List ℤ) where
     unfolding stepOneGiven
     step-one-missing e =
         ap (outcomeOf c s) (three-missing (loveModel love) (bodyOf moon) (bodyOf sun) (λ k m b. accepted (stepOne n c s m b k)) (hundred _ love) (hundred _ (moon .kind)) (hundred _ (sun .kind)) e)
+
+  module _ (xp yp : ℤ) (love : ℕ) where
+    pub pole-named : (k : LoveModel) → names (loveModel love) ≡ true → Converts (loveModel love) k → poleGiven n c s xp yp love ≡ poleTide n c s xp yp k
+    unfolding poleGiven
+    pole-named k e h = ap (outcomeOf c s) (one-named (loveModel love) (λ k. accepted (poleTide n c s xp yp k)) k e h)
+
+    pub pole-missing : names (loveModel love) ≡ false → poleGiven n c s xp yp love ≡ kept
+    unfolding poleGiven
+    pole-missing e = ap (outcomeOf c s) (one-missing (loveModel love) (λ k. accepted (poleTide n c s xp yp k)) (hundred _ love) e)
 
   module _ (phases : Phases) where
     pub step-two-named : (love selection : ℕ) (k : LoveModel) → names (loveModel love) ≡ true → Converts (loveModel love) k → stepTwoGiven n c s phases love selection ≡ stepTwo n c s phases k selection

@@ -7,7 +7,7 @@ use Rattle.leaving.specs.Leaving.{Leaves, GivesAndLeaves}
 use Rattle.refusals.specs.Outcome.{Outcome, Gives}
 use Rattle.refusals.specs.Told.{Told}
 
--- step one, own lines and the ocean tide: the answer and both lists
+-- step one, own lines, the pole tide and the ocean tide: the answer and both lists
 pub one-outcome : (o : Outcome) (number number′ : ℕ) (c c′ s s′ : List ℤ) → Gives o number c s → Gives o number′ c′ s′ → (number ≡ number′) × (c ≡ c′) × (s ≡ s′)
 one-outcome o number number′ c c′ s s′ g h =
     (g .answer ∙ sym (h .answer), g .list-c ∙ sym (h .list-c), g .list-s ∙ sym (h .list-s))

@@ -9,7 +9,7 @@ use Rattle.doodson.specs.Doodson.{readDoodson}
 use Rattle.refusals.specs.Outcome.{Outcome}
 use Rattle.leaving.specs.Leaving.{listedOf}
 use Rattle.permanent.specs.Systems.{movedC20}
-use Rattle.surfgimlet.specs.Calls.{stepOne, stepTwo, oceanTide}
+use Rattle.surfgimlet.specs.Calls.{stepOne, stepTwo, poleTide, oceanTide}
 use Rattle.crossing.specs.declared.GivenBody.{GivenBody}
 use Rattle.crossing.specs.Choices.{loveModel, frameOf, permanentSystem, bodyOf}
 
@@ -28,6 +28,9 @@ stepOneGiven n c s moon sun love =
 
 unfoldable pub stepTwoGiven : ℕ → List ℤ → List ℤ → Phases → ℕ → ℕ → Outcome
 stepTwoGiven n c s phases love selection = outcomeOf c s (next (loveModel love) (λ k. accepted (stepTwo n c s phases k selection)))
+
+unfoldable pub poleGiven : ℕ → List ℤ → List ℤ → ℤ → ℤ → ℕ → Outcome
+poleGiven n c s xp yp love = outcomeOf c s (next (loveModel love) (λ k. accepted (poleTide n c s xp yp k)))
 
 unfoldable pub oceanGiven : ℕ → List ℤ → List ℤ → List ℕ → Phases → ℕ → Outcome
 oceanGiven n c s sheet phases frame = outcomeOf c s (next (frameOf frame) (λ f. accepted (oceanTide n c s sheet phases f)))

@@ -9,7 +9,7 @@ ghost use Rattle.refusals.specs.Outcome.{Gives};
 ghost use Rattle.surfgimlet.specs.Calls.{ownLines};
 ghost use Rattle.profiles.specs.Profiles.{allLines, majorLines};
 ghost use Rattle.selection.specs.Selection.{linesNamed};
-ghost use Rattle.boundary.specs.Calls.{versionNumber, stepOneGiven, stepTwoGiven, oceanGiven, moveGiven, multipliersGiven};
+ghost use Rattle.boundary.specs.Calls.{versionNumber, stepOneGiven, stepTwoGiven, poleGiven, oceanGiven, moveGiven, multipliersGiven};
 use arguments::Phases;
 use bodies::Body;
 use choices::Frame;
@@ -22,14 +22,14 @@ const NO_SUCH_CHOICE: u32 = 100;
 
 const MAJOR: u32 = 2;
 
-const MINOR: u32 = 0;
+const MINOR: u32 = 1;
 
 const PATCH: u32 = 0;
 
 // The version as one number, which SURFGIMLET_VERSION of the header equals.
 #[no_mangle]
 pub extern "C" fn surfgimlet_version() -> u32
-    ensures { λ r. ⌜ r ≡ versionNumber 2 0 0 ⌝ }
+    ensures { λ r. ⌜ r ≡ versionNumber 2 1 0 ⌝ }
 {
     1000000 * MAJOR + 1000 * MINOR + PATCH
 }
@@ -106,6 +106,26 @@ pub extern "C" fn surfgimlet_own_lines(
     ensures { λ r. ⌜ Gives (ownLines n (now (c .entry)) (now (s .entry)) (now (lines .entry)) phases) r (now (c .exit)) (now (s .exit)) ⌝ }
 {
     refusals::answer_number(surfgimlet::own_lines(n, c, s, lines, phases))
+}
+
+// The solid pole tide. Refused: 100, then as surfgimlet::pole_tide.
+#[no_mangle]
+pub extern "C" fn surfgimlet_pole_tide(
+    n: u32,
+    c: &mut [i64],
+    s: &mut [i64],
+    xp: i64,
+    yp: i64,
+    love: u32,
+) -> u32
+    ensures { λ r. ⌜ Gives (poleGiven n (now (c .entry)) (now (s .entry)) xp yp love) r (now (c .exit)) (now (s .exit)) ⌝ }
+{
+    if crossing::is_love(love) {
+        let love: LoveModel = crossing::love_of(love);
+        refusals::answer_number(surfgimlet::pole_tide(n, c, s, xp, yp, love))
+    } else {
+        NO_SUCH_CHOICE
+    }
 }
 
 // The ocean tide of a model sheet. Refused: 100, then as surfgimlet::ocean_tide.

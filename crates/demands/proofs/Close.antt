@@ -13,21 +13,24 @@ use Rattle.own.specs.declared.OwnLine.{OwnLine}
 use Rattle.own.specs.Own.{ownCorrections}
 use Rattle.own_bound.specs.Exact.{withinThreeCounts, exactSum as ownSum}
 use Rattle.own_bound.proofs.Bound.{own-close}
+use Rattle.pole.specs.Pole.{exactC21, exactS21, withinHalfACount}
+use Rattle.pole.proofs.Laws.{half-a-count}
 use Rattle.refusals.specs.Outcome.{Outcome}
 use Rattle.ocean_bound.specs.Exact.{atMostNineCounts}
 use Rattle.ocean_bound.proofs.Bound.{close-to-exact}
 use Rattle.step_two.specs.StepTwo.{corrections}
 use Rattle.step_two_bound.specs.Exact.{lessThanOneCount, exactSum as lineSum}
 use Rattle.step_two_bound.proofs.Bound.{step-two-close}
-use Rattle.surfgimlet.specs.Calls.{stepTwoRefusal, stepTwo, ownLinesRefusal, ownLines, oceanRefusal, oceanTide}
+use Rattle.surfgimlet.specs.Calls.{stepTwoRefusal, stepTwo, ownLinesRefusal, ownLines, poleTideRefusal, poleTide, oceanRefusal, oceanTide}
 use Rattle.surfgimlet.proofs.OceanTide.{passing}
 use Rattle.whole.proofs.Ring.{equal, !, _⊕_, _⊖_}
-use Rattle.demands.specs.Demands.{at, gained, FiveEntries, FiveClose, OceanClose}
+use Rattle.demands.specs.Demands.{at, gained, FiveEntries, FiveClose, PoleClose, OceanClose}
 use Rattle.demands.proofs.Five.{step-two as step-two-entries, own-lines as own-lines-entries, own-passed}
 use Rattle.demands.proofs.Ocean.{c-here, s-here}
+use Rattle.demands.proofs.Pole.{pole-tide as pole-tide-entries}
 
 -- close in either sense, P
-by-gain : (P : ℤ → ℤ → Type 0) (before after : List ℤ) (k : ℕ) (d exact : ℤ) → at after k ≡ at before k +ℤ d → P d exact → P (gained before after k) exact
+by-gain : {E : Type 0} (P : ℤ → E → Type 0) (before after : List ℤ) (k : ℕ) (d : ℤ) (exact : E) → at after k ≡ at before k +ℤ d → P d exact → P (gained before after k) exact
 by-gain P before after k d exact e near =
     subst (λ (z : ℤ). P z exact)
     (sym (ap (λ (z : ℤ). z -ℤ at before k) e ∙ equal (! 0 ⊕ ! 1 ⊖ ! 0) (! 1) (at before k ∷ d ∷ []) (omega arith))) near
@@ -54,6 +57,16 @@ pub own-lines : (n : ℕ) (c s : List ℤ) (lines : List OwnLine) (phases : Phas
 own-lines n c s lines phases passed =
     let k = own-close phases lines (own-passed n c s lines passed) in
     five c s (ownLines n c s lines phases) (ownCorrections phases lines) (ownSum phases lines) (own-lines-entries n c s lines phases passed) (k .c20) (k .c21) (k .s21) (k .c22) (k .s22)
+
+pub pole-tide : (n : ℕ) (c s : List ℤ) (xp yp : ℤ) (love : LoveModel) → poleTideRefusal n c s xp yp ≡ 0 → PoleClose n c s xp yp love
+pole-tide n c s xp yp love passed =
+    let o = poleTide n c s xp yp love in
+    let e = pole-tide-entries n c s xp yp love passed in
+    let near = half-a-count xp yp love in
+    record {
+      c21 = by-gain withinHalfACount c (o .c) _ _ (exactC21 love xp yp) (e .c21) (near .0);
+      s21 = by-gain withinHalfACount s (o .s) _ _ (exactS21 love xp yp) (e .s21) (near .1);
+    }
 
 pub ocean-tide : (n : ℕ) (c s : List ℤ) (sheet : List ℕ) (phases : Phases) (frame : Frame) → oceanRefusal n c s sheet ≡ 0 → OceanClose n c s sheet phases frame
 ocean-tide n c s sheet phases frame e =

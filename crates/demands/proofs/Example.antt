@@ -1,4 +1,4 @@
--- The worked Moon and Sun, and four own lines, on a field of zeros; step two on a day.
+-- The worked Moon and Sun, four own lines, and a pole, on a field of zeros; step two on a day.
 use mathlib.Core.Path.{_≡_, refl}
 use mathlib.Core.List.{List, [], _∷_}
 use lib.IntN.{ℤ, pos, negℤ}
@@ -17,13 +17,15 @@ use Rattle.refusals.specs.Outcome.{firstOf, unlessRefused}
 use Rattle.field.specs.Added.{corrected, added, addedAt}
 use Rattle.step_one.proofs.Worked.{moon, sun, moon-and-sun}
 use Rattle.step_one.specs.StepOne.{places}
+use Rattle.pole.specs.declared.Corrections.{Corrections as Pole}
+use Rattle.pole.specs.Pole.{offsetsRefusal, exactC21, exactS21, corrections as poleCorrections}
 use Rattle.profiles.specs.Profiles.{allLines}
 use Rattle.selection.specs.Selection.{names, selected, selectionOf}
 use Rattle.step_two.specs.StepTwo.{corrections}
 use Rattle.wave.specs.Wave.{sin, cos, further, eighths, signed, part, folded, eighth-sine, eighth-cosine, steps, step, square, angle}
 use Rattle.whole.specs.Nearest.{nearest}
 use Rattle.whole.specs.Sum.{sumTo, allTo}
-use Rattle.surfgimlet.specs.Calls.{stepOneRefusal, stepOne, placesC, placesS, fiveCorrected, ownLinesRefusal, ownLines}
+use Rattle.surfgimlet.specs.Calls.{stepOneRefusal, stepOne, placesC, placesS, fiveCorrected, ownLinesRefusal, ownLines, poleTideRefusal, poleTide}
 
 abbrev zeros : List ℤ
 zeros = pos 0 ∷ pos 0 ∷ pos 0 ∷ pos 0 ∷ pos 0 ∷ pos 0 ∷ pos 0 ∷ pos 0 ∷ pos 0 ∷ pos 0 ∷ pos 0 ∷ pos 0 ∷ pos 0 ∷ pos 0 ∷ pos 0 ∷ []
@@ -79,7 +81,35 @@ pub own-lines-on-a-field : ownLines 4 zeros zeros (monthly ∷ daily ∷ daily �
 unfolding ownLines ownLinesRefusal recordsRefusal inRange allTo fiveCorrected firstOf unlessRefused fieldRefusal shapedBy size everyInRange placesC placesS place addedAt added corrected
 own-lines-on-a-field = rw four-lines
 
--- step two at that hour, of either model: the second program's counts
+-- the pole at the angles that 001 begins with, 0.046 and 0.294 arcseconds, in either model: the second program's counts
+abbrev pole-counts : LoveModel → Pole
+pole-counts Elastic = record { c21 = negℤ (pos 59340); s21 = pos 379260 }
+pole-counts Anelastic = record { c21 = negℤ (pos 66447); s21 = pos 395618 }
+
+at-those-angles : (love : LoveModel) → poleCorrections (pos 46000) (pos 294000) love ≡ pole-counts love
+unfolding poleCorrections exactC21 exactS21 nearest
+at-those-angles Elastic = refl
+at-those-angles Anelastic = refl
+
+pub pole-tide-on-a-field : (love : LoveModel) → poleTide 4 zeros zeros (pos 46000) (pos 294000) love ≡
+    record {
+      number = 0;
+      c =
+          pos 0 ∷ pos 0 ∷ pos 0
+          ∷ pos 0 ∷ pole-counts love .c21 ∷ pos 0
+          ∷ pos 0 ∷ pos 0 ∷ pos 0 ∷ pos 0
+          ∷ pos 0 ∷ pos 0 ∷ pos 0 ∷ pos 0 ∷ pos 0 ∷ [];
+      s =
+          pos 0 ∷ pos 0 ∷ pos 0
+          ∷ pos 0 ∷ pole-counts love .s21 ∷ pos 0
+          ∷ pos 0 ∷ pos 0 ∷ pos 0 ∷ pos 0
+          ∷ pos 0 ∷ pos 0 ∷ pos 0 ∷ pos 0 ∷ pos 0 ∷ [];
+    }
+unfolding poleTide poleTideRefusal offsetsRefusal firstOf unlessRefused fieldRefusal shapedBy size everyInRange place corrected
+pole-tide-on-a-field Elastic = rw (at-those-angles Elastic) refl
+pole-tide-on-a-field Anelastic = rw (at-those-angles Anelastic) refl
+
+-- step two at the hour of the own lines, of either model: the second program's counts
 abbrev day-counts : LoveModel → Corrections
 day-counts Elastic = record { c20 = pos 0; c21 = pos 428117; s21 = pos 334941; c22 = negℤ (pos 787); s22 = pos 696 }
 day-counts Anelastic = record { c20 = negℤ (pos 53); c21 = pos 427078; s21 = pos 333684; c22 = negℤ (pos 787); s22 = pos 696 }

@@ -1,6 +1,7 @@
 pub mod StepOne
 pub mod Five
 pub mod Ocean
+pub mod Pole
 pub mod Close
 pub mod Numbers
 pub mod OneResult

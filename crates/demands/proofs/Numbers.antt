@@ -1,4 +1,4 @@
--- The calls without a field are refused exactly when the table says: 2 of a C20 to move, 10 and 11 of a Doodson number. And 14 of step two.
+-- The calls without a field are refused exactly when the table says: 2 of a C20 to move, 10 and 11 of a Doodson number. And 14 of step two, 15 of the pole tide.
 use borrow.Author.Tests.{leb-true, leb-false, le-leb, lt-leb, eq-eqb, ne-eqb}
 use mathlib.Core.Bool.{Bool, true, false, cond, _&&_}
 use mathlib.Core.List.{List, [], _∷_}
@@ -14,16 +14,18 @@ use Rattle.choices.specs.declared.LoveModel.{LoveModel}
 use Rattle.choices.specs.declared.PermanentSystem.{PermanentSystem}
 use Rattle.doodson.specs.Doodson.{writable, readDoodson, writeDoodson}
 use Rattle.field.specs.Field.{shaped, everyInRange, fieldRefusal}
-use Rattle.limits.specs.Limits.{isDoodson, isEntry, isSelection}
+use Rattle.limits.specs.Limits.{isDoodson, isEntry, isSelection, isPoleOffset}
 use Rattle.lines.specs.Lines.{Printed, Found, nowhere, printed, lineAt, soughtFrom, findLine}
 use Rattle.permanent.specs.Systems.{movedC20}
+use Rattle.pole.specs.Pole.{offsetsRefusal}
+use Rattle.pole.proofs.Offsets.{within-an-arcsecond}
 use Rattle.refusals.specs.Told.{Told, toldNumber}
 use Rattle.refusals.specs.Told.Told.{accepted, refused}
 use Rattle.refusals.specs.Outcome.{firstOf}
 use Rattle.refusals.proofs.Outcomes.{first-kept, first-passed}
 use Rattle.selection.specs.Selection.{names, selectionRefusal}
 use Rattle.selection.proofs.Laws.{no-bit-above}
-use Rattle.surfgimlet.specs.Calls.{stepTwoRefusal}
+use Rattle.surfgimlet.specs.Calls.{stepTwoRefusal, poleTideRefusal}
 
 clash : {X : Type 0} → true ≡ false → X
 clash e = absurd (subst T e tt)
@@ -100,8 +102,8 @@ module _ (number : ℕ) where
       by-test true t e = (leb-true _ _ t, not-found 0 printed e)
       by-test false t e = absurd (let z = ap toldNumber e in omega (arith, z))
 
--- 14: "for a bit above 48, after 2"
-module _ (n : ℕ) (c s : List ℤ) (selection : ℕ) where
+-- a number that one test answers, after the field's
+module _ (n : ℕ) (c s : List ℤ) where
   field-most : fieldRefusal n c s ≤ 2
   unfolding fieldRefusal
   field-most = by (shaped n c s) (everyInRange c && everyInRange s)
@@ -111,15 +113,20 @@ module _ (n : ℕ) (c s : List ℤ) (selection : ℕ) where
       by true false = omega arith
       by false b = omega arith
 
-  -- not every bit from 49 on is clear
-  abbrev BitAbove : Type 0
-  BitAbove = ((i : ℕ) → 49 ≤ i → names selection i ≡ false) → ⊥
-
-  pub fourteen-of-step-two : stepTwoRefusal n c s selection ≡ 14 ↔ ((fieldRefusal n c s ≡ 0) × BitAbove)
-  unfolding stepTwoRefusal selectionRefusal
-  fourteen-of-step-two = by (fieldRefusal n c s) field-most (isSelection selection) (no-bit-above selection)
+  after-the-field : {A : Type 0} (b : Bool) (k : ℕ) → 2 < k → _≡_ {A = ℕ} (cond b 0 k) 0 ↔ A → firstOf (fieldRefusal n c s) (cond b 0 k) ≡ k ↔ ((fieldRefusal n c s ≡ 0) × (A → ⊥))
+  after-the-field {A} b k after t = by (fieldRefusal n c s) field-most b t
     where
-      by : (f : ℕ) → f ≤ 2 → (b : Bool) → _≡_ {A = ℕ} (cond b 0 14) 0 ↔ ((i : ℕ) → 49 ≤ i → names selection i ≡ false) → firstOf f (cond b 0 14) ≡ 14 ↔ ((f ≡ 0) × BitAbove)
-      by zero h true t = (λ e. absurd (let z : 0 ≡ 14 = sym (first-passed 0 0 refl) ∙ e in omega (arith, z)), λ k. absurd (k .1 (t .0 refl)))
-      by zero h false t = (λ e. (refl, λ clear. omega (arith, t .1 clear)), λ k. first-passed 0 14 refl)
-      by (suc f) h b t = (λ e. absurd (let z : suc f ≡ 14 = sym (first-kept (suc f) (cond b 0 14) (λ q. omega arith)) ∙ e in omega (arith, z)), λ k. absurd (omega arith))
+      by : (f : ℕ) → f ≤ 2 → (b : Bool) → _≡_ {A = ℕ} (cond b 0 k) 0 ↔ A → firstOf f (cond b 0 k) ≡ k ↔ ((f ≡ 0) × (A → ⊥))
+      by zero h true t = (λ e. absurd (let z : 0 ≡ k = sym (first-passed 0 0 refl) ∙ e in omega (arith, z)), λ q. absurd (q .1 (t .0 refl)))
+      by zero h false t = (λ e. (refl, λ a. omega (arith, t .1 a)), λ q. first-passed 0 k refl)
+      by (suc f) h b t = (λ e. absurd (let z : suc f ≡ k = sym (first-kept (suc f) (cond b 0 k) (λ q. omega arith)) ∙ e in omega (arith, z)), λ q. absurd (omega arith))
+
+  -- 14: "for a bit above 48, after 2"
+  pub fourteen-of-step-two : (selection : ℕ) → stepTwoRefusal n c s selection ≡ 14 ↔ ((fieldRefusal n c s ≡ 0) × (((i : ℕ) → 49 ≤ i → names selection i ≡ false) → ⊥))
+  unfolding stepTwoRefusal selectionRefusal
+  fourteen-of-step-two selection = after-the-field (isSelection selection) 14 (omega arith) (no-bit-above selection)
+
+  -- 15: "for an offset out of range, after 2"
+  pub fifteen-of-the-pole-tide : (xp yp : ℤ) → poleTideRefusal n c s xp yp ≡ 15 ↔ ((fieldRefusal n c s ≡ 0) × ((natAbs xp ≤ 1000000) × (natAbs yp ≤ 1000000) → ⊥))
+  unfolding poleTideRefusal offsetsRefusal
+  fifteen-of-the-pole-tide xp yp = after-the-field (isPoleOffset xp && isPoleOffset yp) 15 (omega arith) (within-an-arcsecond xp yp)

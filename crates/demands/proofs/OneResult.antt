@@ -25,7 +25,7 @@ use Rattle.selection.specs.declared.Named.{Named}
 use Rattle.selection.specs.declared.Named.the-variants as named
 use Rattle.selection.specs.Selection.{tells as tellsNamed}
 
--- ---- step one, own lines and the ocean tide: the answer and both lists
+-- ---- step one, own lines, the pole tide and the ocean tide: the answer and both lists
 pub one-outcome : (o : Outcome) (a b : Answer) (c c′ s s′ : List ℤ) → Gives o (answerNumber a) c s → Gives o (answerNumber b) c′ s′ → (a ≡ b) × (c ≡ c′) × (s ≡ s′)
 one-outcome o a b c c′ s s′ g h =
     (same-answer a b (g .answer ∙ sym (h .answer)), g .list-c ∙ sym (h .list-c), g .list-s ∙ sym (h .list-s))

@@ -23,13 +23,14 @@ use Rattle.own.specs.Own.{ownCorrections}
 use Rattle.own_bound.specs.Exact.{withinThreeCounts, exactSum as ownSum}
 use Rattle.permanent.specs.Systems.{movedC20}
 use Rattle.places.specs.Places.{indexOf}
+use Rattle.pole.specs.Pole.{exactC21, exactS21, corrections as poleCorrections, withinHalfACount}
 use Rattle.refusals.specs.Outcome.{Outcome}
 use Rattle.refusals.specs.Told.Told.{accepted}
 use Rattle.sheet.specs.Sheet.{placeCount, cCos, sCos, cSin, sSin}
 use Rattle.step_one.specs.StepOne.{Counts, places, corrections as bodyCorrections}
 use Rattle.step_two.specs.StepTwo.{corrections as lineCorrections}
 use Rattle.step_two_bound.specs.Exact.{lessThanOneCount, exactSum as lineSum}
-use Rattle.surfgimlet.specs.Calls.{stepOneRefusal, stepOne, stepTwoRefusal, stepTwo, ownLinesRefusal, ownLines, oceanRefusal, oceanTide}
+use Rattle.surfgimlet.specs.Calls.{stepOneRefusal, stepOne, stepTwoRefusal, stepTwo, ownLinesRefusal, ownLines, poleTideRefusal, poleTide, oceanRefusal, oceanTide}
 
 -- the entry at k
 abbrev pub at : List ℤ → ℕ → ℤ
@@ -49,6 +50,7 @@ pub record First : Type 0 where
   pub step-one : (n : ℕ) (c s : List ℤ) (moon sun : Body) (love : LoveModel) → Refuses (stepOne n c s moon sun love) (stepOneRefusal n c s moon sun love) c s
   pub step-two : (n : ℕ) (c s : List ℤ) (phases : Phases) (love : LoveModel) (selection : ℕ) → Refuses (stepTwo n c s phases love selection) (stepTwoRefusal n c s selection) c s
   pub own-lines : (n : ℕ) (c s : List ℤ) (lines : List OwnLine) (phases : Phases) → Refuses (ownLines n c s lines phases) (ownLinesRefusal n c s lines) c s
+  pub pole-tide : (n : ℕ) (c s : List ℤ) (xp yp : ℤ) (love : LoveModel) → Refuses (poleTide n c s xp yp love) (poleTideRefusal n c s xp yp) c s
   pub ocean-tide : (n : ℕ) (c s : List ℤ) (sheet : List ℕ) (phases : Phases) (frame : Frame) → Refuses (oceanTide n c s sheet phases frame) (oceanRefusal n c s sheet) c s
 
 -- "The solid-tide corrections follow Chapter 6 .., and the ocean ones the synthesis rule ..": each entry that a rule names gains its correction.
@@ -71,6 +73,14 @@ pub record FiveEntries (c s : List ℤ) (o : Outcome) (d : Corrections) : Type 0
   pub c-elsewhere : (k : ℕ) → (k < place 2 0) ⊎ (place 3 0 ≤ k) → at (o .c) k ≡ at c k
   pub s-elsewhere : (k : ℕ) → (k < place 2 1) ⊎ (place 3 0 ≤ k) → at (o .s) k ≡ at s k
 
+-- T-05: "Nothing but the two entries moves"
+pub record PoleEntries (n : ℕ) (c s : List ℤ) (xp yp : ℤ) (love : LoveModel) : Type 0 where
+  pub c21 : at (poleTide n c s xp yp love .c) (place 2 1) ≡ at c (place 2 1) +ℤ poleCorrections xp yp love .c21
+  pub s21 : at (poleTide n c s xp yp love .s) (place 2 1) ≡ at s (place 2 1) +ℤ poleCorrections xp yp love .s21
+  pub c-elsewhere : (k : ℕ) → (k ≡ place 2 1 → ⊥) → at (poleTide n c s xp yp love .c) k ≡ at c k
+  pub s-elsewhere : (k : ℕ) → (k ≡ place 2 1 → ⊥) → at (poleTide n c s xp yp love .s) k ≡ at s k
+  pub order-zero : (d : ℕ) → at (poleTide n c s xp yp love .s) (place d 0) ≡ at s (place d 0)
+
 pub record OceanEntries (n : ℕ) (c s : List ℤ) (sheet : List ℕ) (phases : Phases) (frame : Frame) : Type 0 where
   pub c-here : (j : ℕ) → j < placeCount sheet → at (oceanTide n c s sheet phases frame .c) (indexOf sheet j) ≡ at c (indexOf sheet j) +ℤ dC sheet phases frame j
   pub s-here : (j : ℕ) → j < placeCount sheet → at (oceanTide n c s sheet phases frame .s) (indexOf sheet j) ≡ at s (indexOf sheet j) +ℤ dS sheet phases frame j
@@ -84,6 +94,7 @@ pub record Second : Type 0 where
       → FiveEntries c s (stepTwo n c s phases love selection) (lineCorrections phases love selection)
   pub own-lines : (n : ℕ) (c s : List ℤ) (lines : List OwnLine) (phases : Phases) → ownLinesRefusal n c s lines ≡ 0
       → FiveEntries c s (ownLines n c s lines phases) (ownCorrections phases lines)
+  pub pole-tide : (n : ℕ) (c s : List ℤ) (xp yp : ℤ) (love : LoveModel) → poleTideRefusal n c s xp yp ≡ 0 → PoleEntries n c s xp yp love
   pub ocean-tide : (n : ℕ) (c s : List ℤ) (sheet : List ℕ) (phases : Phases) (frame : Frame) → oceanRefusal n c s sheet ≡ 0 → OceanEntries n c s sheet phases frame
   -- "Doodson numbers turn into multipliers and back without loss"
   pub doodson-back : (number : ℕ) (n : Multipliers) → readDoodson number ≡ accepted n → writeDoodson n ≡ accepted number
@@ -104,6 +115,10 @@ pub record OceanClose (n : ℕ) (c s : List ℤ) (sheet : List ℕ) (phases : Ph
   pub in-c : (j : ℕ) → j < placeCount sheet → atMostNineCounts (gained c (oceanTide n c s sheet phases frame .c) (indexOf sheet j)) (oceanSum sheet phases frame cCos cSin j)
   pub in-s : (j : ℕ) → j < placeCount sheet → atMostNineCounts (gained s (oceanTide n c s sheet phases frame .s) (indexOf sheet j)) (oceanSum sheet phases frame sCos sSin j)
 
+pub record PoleClose (n : ℕ) (c s : List ℤ) (xp yp : ℤ) (love : LoveModel) : Type 0 where
+  pub c21 : withinHalfACount (gained c (poleTide n c s xp yp love .c) (place 2 1)) (exactC21 love xp yp)
+  pub s21 : withinHalfACount (gained s (poleTide n c s xp yp love .s) (place 2 1)) (exactS21 love xp yp)
+
 pub record Third : Type 0 where
   -- T-04: "The less-than-one-count bound is to hold for every selection", from the exact sum of the lines named
   pub step-two : (n : ℕ) (c s : List ℤ) (phases : Phases) (love : LoveModel) (selection : ℕ) → stepTwoRefusal n c s selection ≡ 0
@@ -111,6 +126,8 @@ pub record Third : Type 0 where
   -- T-01: "Each resulting correction must lie within three counts of its exact sum"
   pub own-lines : (n : ℕ) (c s : List ℤ) (lines : List OwnLine) (phases : Phases) → ownLinesRefusal n c s lines ≡ 0
       → FiveClose withinThreeCounts c s (ownLines n c s lines phases) (ownSum phases lines)
+  -- T-05: "One rounding each", of the exact fraction
+  pub pole-tide : (n : ℕ) (c s : List ℤ) (xp yp : ℤ) (love : LoveModel) → poleTideRefusal n c s xp yp ≡ 0 → PoleClose n c s xp yp love
   pub ocean-tide : (n : ℕ) (c s : List ℤ) (sheet : List ℕ) (phases : Phases) (frame : Frame) → oceanRefusal n c s sheet ≡ 0 → OceanClose n c s sheet phases frame
 
 pub record Demands : Type 0 where

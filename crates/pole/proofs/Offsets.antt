@@ -1,6 +1,7 @@
 -- Offsets that are not refused, and the room that their products have.
-use borrow.Author.Tests.{leb-true}
+use borrow.Author.Tests.{leb-true, le-leb}
 use mathlib.Core.Bool.{Bool, true, false, _&&_, cond}
+use mathlib.Core.Logic.{_↔_}
 use mathlib.Core.Path.{_≡_, refl, ap, ap₂, _∙_}
 use Prim.Native.Nat.{ℕ, _+_, _*_, _^_, _≤_, _<_}
 use native.Mathlib.Nat.{mul-le-mul}
@@ -28,6 +29,12 @@ module _ (xp yp : ℤ) (accepted : offsetsRefusal xp yp ≡ 0) where
 
   pub y-offset : isPoleOffset yp ≡ true
   y-offset = and-right (isPoleOffset xp) (isPoleOffset yp) both
+
+-- 15 is answered beyond an arcsecond of either offset, and nowhere else
+pub within-an-arcsecond : (xp yp : ℤ) → offsetsRefusal xp yp ≡ 0 ↔ ((natAbs xp ≤ 1000000) × (natAbs yp ≤ 1000000))
+unfolding offsetsRefusal
+within-an-arcsecond xp yp =
+    (λ e. (leb-true _ _ (x-offset xp yp e), leb-true _ _ (y-offset xp yp e)), λ h. rw (le-leb _ _ (h .0), le-leb _ _ (h .1)) refl)
 
 pub minus-offset : (z : ℤ) → isPoleOffset z ≡ true → isPoleOffset (negℤ z) ≡ true
 minus-offset z offset = rw (abs-neg z) offset

@@ -180,15 +180,19 @@ fn ocean_tide(n: u32, c: &mut [i64], s: &mut [i64]) {
     write_answer(surfgimlet::ocean_tide(n, c, s, &sheet[..count], phases, frame));
 }
 
+fn pole_tide(n: u32, c: &mut [i64], s: &mut [i64]) {
+    let love = read_love();
+    let xp = read_i64();
+    let yp = read_i64();
+    write_answer(surfgimlet::pole_tide(n, c, s, xp, yp, love));
+}
+
 fn called(call: u8, n: u32, c: &mut [i64], s: &mut [i64]) {
-    if call == 4 {
-        step_one(n, c, s);
-    } else {
-        if call == 5 {
-            step_two(n, c, s);
-        } else {
-            ocean_tide(n, c, s);
-        }
+    match call {
+        4 => step_one(n, c, s),
+        5 => step_two(n, c, s),
+        6 => ocean_tide(n, c, s),
+        _ => pole_tide(n, c, s),
     }
 }
 

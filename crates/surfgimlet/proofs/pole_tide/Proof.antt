@@ -102,11 +102,11 @@ pole-tide-spec =
     (λ c κs. search needs) (λ c κs. search needs) (λ c κs. search needs) (λ c. search needs)
     (λ c κs. let x = given c in ap₂ offsetsRefusal (toZ-ofZ (x .fits .xp)) (toZ-ofZ (x .fits .yp)) ∙ both c .1)
     (λ c κs.
-      let k = c .before .before in
-      (omega (arith, c-room (k .before)), (entry-in-range (x k .args .c .now) (field (k .before) .c-range) _, rw (read-c21 k) (omega (arith, most k .0)))))
+    let k = c .before .before in
+    (omega (arith, c-room (k .before)), (entry-in-range (x k .args .c .now) (field (k .before) .c-range) _, rw (read-c21 k) (omega (arith, most k .0)))))
     (λ c κs.
-      let k = c .before .before .before .before .before .before in
-      (omega (arith, s-room (k .before)), (entry-in-range (x k .args .s .now) (field (k .before) .s-range) _, rw (read-s21 k) (omega (arith, most k .1)))))
+    let k = c .before .before .before .before .before .before in
+    (omega (arith, s-room (k .before)), (entry-in-range (x k .args .s .now) (field (k .before) .s-range) _, rw (read-s21 k) (omega (arith, most k .1)))))
     (λ c. search needs) (λ c. search needs) (λ c. search needs)
     returns
     (λ c. search needs) (λ c. search needs)
