@@ -12,7 +12,7 @@
 #define ROUNDS 300
 #define CALLS 80000
 
-enum { STEP_ONE, STEP_TWO, OWN, OCEAN, KINDS };
+enum { STEP_ONE, STEP_TWO, OWN, POLE, OCEAN, KINDS };
 
 /* what a call is given */
 static uint32_t n, choice;
@@ -23,6 +23,8 @@ static double radians[6];
 static uint64_t selection;
 static surfgimlet_own_line lines[70];
 static size_t lines_length;
+static int64_t xp, yp;
+static double arcseconds[2];
 static uint8_t sheet[70000];
 static size_t length;
 static int64_t c[SIZE], s[SIZE];
@@ -31,16 +33,17 @@ static uint32_t answer, named;
 
 /* ---- the ways */
 
-typedef struct { const char *name; step_one_call *one; step_two_call *two; own_call *own; ocean_call *ocean; } way;
+typedef struct { const char *name; step_one_call *one; step_two_call *two; own_call *own; pole_call *pole; ocean_call *ocean; } way;
 
 static const way ways[] = {
-    {"unit", surfgimlet_step_one, surfgimlet_step_two, surfgimlet_own_lines, surfgimlet_ocean_tide},
-    {"gcc", gcc_step_one, gcc_step_two, gcc_own_lines, gcc_ocean_tide},
+    {"unit", surfgimlet_step_one, surfgimlet_step_two, surfgimlet_own_lines, surfgimlet_pole_tide, surfgimlet_ocean_tide},
+    {"gcc", gcc_step_one, gcc_step_two, gcc_own_lines, gcc_pole_tide, gcc_ocean_tide},
 #ifdef WITH_CLANG
-    {"clang", clang_step_one, clang_step_two, clang_own_lines, clang_ocean_tide},
+    {"clang", clang_step_one, clang_step_two, clang_own_lines, clang_pole_tide, clang_ocean_tide},
 #endif
 #ifdef WITH_EARLIER
-    {"earlier", earlier_surfgimlet_step_one, earlier_surfgimlet_step_two, earlier_surfgimlet_own_lines, earlier_surfgimlet_ocean_tide},
+    {"earlier", earlier_surfgimlet_step_one, earlier_surfgimlet_step_two, earlier_surfgimlet_own_lines, earlier_surfgimlet_pole_tide,
+     earlier_surfgimlet_ocean_tide},
 #endif
 };
 #define WAYS ((int)(sizeof ways / sizeof *ways))
@@ -51,6 +54,9 @@ static const way ways[] = {
 #define EARLIER WAYS
 #endif
 
+/* an earlier archive may be without the pole tide */
+static int has(int by, int what) { return what != POLE || by == DOUBLES || ways[by].pole; }
+
 static size_t size_of(uint32_t degree) { return (size_t)(degree + 1) * (degree + 2) / 2; }
 
 static void call(int what, int by)
@@ -60,6 +66,7 @@ static void call(int what, int by)
         if (what == STEP_ONE) doubles_step_one(cd, sd, moon, sun, choice);
         else if (what == STEP_TWO) doubles_step_two(cd, sd, radians, choice, selection);
         else if (what == OWN) answer = doubles_own_lines(cd, sd, lines, lines_length, radians);
+        else if (what == POLE) doubles_pole_tide(cd, sd, arcseconds[0], arcseconds[1], choice);
         else answer = doubles_ocean_tide(n, cd, sd, sheet, length, radians, choice);
     } else if (what == STEP_ONE) {
         answer = ways[by].one(n, c, size, s, size, moon, sun, choice);
@@ -67,6 +74,8 @@ static void call(int what, int by)
         answer = ways[by].two(n, c, size, s, size, phases, choice, selection, &named);
     } else if (what == OWN) {
         answer = ways[by].own(n, c, size, s, size, lines, lines_length, phases);
+    } else if (what == POLE) {
+        answer = ways[by].pole(n, c, size, s, size, xp, yp, choice);
     } else {
         answer = ways[by].ocean(n, c, size, s, size, sheet, length, phases, choice);
     }
@@ -101,15 +110,21 @@ static void make_lines(int count)
     }
 }
 
+/* an end of -most..most, or beyond */
+static int64_t any_end(int64_t most)
+{
+    const int64_t ends[8] = {most, -most, most + 1, -most - 1, INT64_C(1) << 32, INT64_C(1) << 62, INT64_MAX, INT64_MIN};
+    return ends[any(8)];
+}
+
 /* one field of a record, at an end of its range or beyond */
 static void spoil(surfgimlet_own_line *line)
 {
     static const int32_t narrow[9] = {0, 2, 3, -1, 13, -13, 14, -14, INT32_MIN};
-    static const int64_t wide[8] = {100000, -100000, 100001, -100001, INT64_C(1) << 32, INT64_C(1) << 62, INT64_MAX, INT64_MIN};
     int32_t *field[6] = {&line->tau, &line->s, &line->h, &line->p, &line->np, &line->ps};
     uint64_t which = any(8);
     if (which < 6) *field[which] = narrow[any(9)];
-    else *(which == 6 ? &line->ip : &line->op) = wide[any(8)];
+    else *(which == 6 ? &line->ip : &line->op) = any_end(100000);
 }
 
 /* the selection that names so many: all 49, or the 21 major ones */
@@ -129,6 +144,16 @@ static uint64_t any_selection(void)
     case 6: return UINT64_C(1) << any(49);
     default: return half & other & any(all + 1) & any(all + 1);
     }
+}
+
+/* An elastic correction is a half at one offset in a hundred. An anelastic one is where 625 xp + 7 yp, or 625 yp - 7 xp, is an odd multiple of 78125:
+ * too seldom to be left to chance. */
+static void make_offsets(void)
+{
+    int64_t k = within(1000), half = 125 + 250 * within(3900);
+    int which = (int)any(8);
+    xp = which == 0 ? half - 7 * k : which == 1 ? 625 * k : within(1000000);
+    yp = which == 0 ? 625 * k : which == 1 ? half + 7 * k : within(1000000);
 }
 
 /* places from (1,0) on, so that 90 reach degree 12, 30 degree 7 and 6 degree 3 */
@@ -215,6 +240,7 @@ static void hold(int what)
     memcpy(c_unit, c, sizeof c);
     memcpy(s_unit, s, sizeof s);
     for (int by = 1; by < WAYS; by++) {
+        if (!has(by, what)) continue;
         memcpy(c, c_before, sizeof c);
         memcpy(s, s_before, sizeof s);
         named = named_before;
@@ -223,14 +249,16 @@ static void hold(int what)
         if (by == EARLIER) {
             earlier_differs++;
         } else {
-            printf("best.c by %s differs from the unit: call %d, N = %u, choice %u, selection %#llx, answers %u and %u, lines %u and %u\n",
-                   ways[by].name, what, n, choice, (unsigned long long)selection, answer, unit, named, named_unit);
+            printf("best.c by %s differs from the unit: call %d, N = %u, choice %u, selection %#llx, offsets %lld and %lld, answers %u and %u, "
+                   "lines %u and %u\n", ways[by].name, what, n, choice, (unsigned long long)selection, (long long)xp, (long long)yp, answer, unit,
+                   named, named_unit);
             exit(1);
         }
     }
 }
 
-/* accepted calls, and calls with one thing at fault: an entry, a float, the Moon's mass, a byte of the sheet, its length, N, a record, the selection */
+/* accepted calls, and calls with one thing at fault: an entry, a float, the Moon's mass, a byte of the sheet, its length, N, a record, the selection,
+ * one offset or both */
 static void hold_all(void)
 {
     static const uint32_t degrees[6] = {4, 12, 60, 7, 3, 61};
@@ -249,19 +277,23 @@ static void hold_all(void)
         if (what == OCEAN) make_sheet(1 + (int)any(8), 1 + (int)any(4), (int)any(16));
         if (what == OWN) make_lines(any(8) ? (int)any(65) : 60 + (int)any(11));
         if (what == STEP_TWO) selection = any_selection();
+        if (what == POLE) make_offsets();
         if (fault == 0) (any(2) ? c : s)[any(size_of(4))] = (any(2) ? edge : -edge) + within(1);
         if (fault == 1) *(&(any(2) ? &moon : &sun)->ratio + any(5)) = any(4) ? floats[any(8)] : any(2) ? NAN : INFINITY;
         if (fault == 2) sheet[any(length + 1)] = (uint8_t)any(256);
-        if (fault == 3) length += (size_t)within(1);
+        if (fault == 3 && length) length += (size_t)within(1);
         if (fault == 4) moon = any_body((double)(100000 + any(900001)), 1e8, 1.5e8);
         if (fault == 5 && lines_length) spoil(&lines[any(lines_length)]);
         if (fault == 6) selection |= UINT64_C(1) << (49 + any(15));
+        if (fault == 7 || fault == 8) xp = any_end(1000000);
+        if (fault == 8 || fault == 9) yp = any_end(1000000);
         hold(what);
         refused[answer]++;
     }
     printf("best.c: the unit's answers, counts and numbers of lines on %d calls; answered", CALLS);
     for (int i = 0; i <= 100; i++) if (refused[i]) printf(" %d: %ld", i, refused[i]);
     if (EARLIER < WAYS) printf("\nthe earlier archive: other answers, counts or numbers of lines than the unit's on %ld of them", earlier_differs);
+    if (!has(EARLIER, POLE)) printf(", the pole tide's left out, since it has none");
     puts("\n");
 }
 
@@ -330,6 +362,10 @@ static const row rows[] = {
     {"step one, elastic", STEP_ONE, 0, 0, 0, 4, 0, 0, 0, ONE},
     {"step one, elastic", STEP_ONE, 0, 0, 0, 12, 0, 0, 0, ONE},
     {"step one, elastic", STEP_ONE, 0, 0, 0, 60, 0, 0, 0, ONE},
+    {"pole tide, anelastic", POLE, 0, 0, 0, 4, 1, 0, 0, ONE},
+    {"pole tide, anelastic", POLE, 0, 0, 0, 12, 1, 0, 0, ONE},
+    {"pole tide, anelastic", POLE, 0, 0, 0, 60, 1, 0, 0, ONE},
+    {"pole tide, elastic", POLE, 0, 0, 0, 12, 0, 0, 0, ONE},
 };
 
 /* a ratio beside the one to reach */
@@ -354,12 +390,13 @@ static void compare(const row *r)
     memset(s, 0, sizeof s);
     hold(r->what);
     for (int k = 0; k < ROUNDS; k++)
-        for (int i = 0; i <= WAYS; i++) time_once(r->what, i, &best[i]);
+        for (int i = 0; i <= WAYS; i++) if (has(i, r->what)) time_once(r->what, i, &best[i]);
     c_time = best_c(best, &by);
     printf("| %s | %u | %.0f | %.0f %s | %.0f |", r->name, n, best[0], c_time, by, best[DOUBLES]);
     put_ratio(best[0] / c_time, r->of_c);
     put_ratio(best[0] / best[DOUBLES], r->of_doubles);
-    if (EARLIER < WAYS) printf(" %.0f | %.2f |", best[EARLIER], best[0] / best[EARLIER]);
+    if (!has(EARLIER, r->what)) printf(" | |");
+    else if (EARLIER < WAYS) printf(" %.0f | %.2f |", best[EARLIER], best[0] / best[EARLIER]);
     puts("");
 }
 
@@ -398,6 +435,10 @@ int main(void)
     one = any_epoch();
     moon = (surfgimlet_body){SURFGIMLET_DIRECTION, 0.0123, 0.6, 0.48, 0.64, 3.8e8};
     sun = (surfgimlet_body){SURFGIMLET_RECTANGULAR, 332946, 9e10, 7.2e10, -9.6e10, 1.5e11};
+    xp = 123457;
+    yp = -234568;
+    arcseconds[0] = 1e-6 * (double)xp;
+    arcseconds[1] = 1e-6 * (double)yp;
 
     puts("Nanoseconds a call, the least of many rounds. A sheet is lines/tides/places.\n");
     printf("| call | N | unit | best C | doubles | unit/C | at most | unit/doubles | at most |%s\n", EARLIER < WAYS ? " earlier | unit/earlier |" : "");

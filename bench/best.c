@@ -1,4 +1,4 @@
-/* The unit's four calls over a field, in C written for speed: the same refusals in the same order and the same counts, no intrinsics.
+/* The unit's five calls over a field, in C written for speed: the same refusals in the same order and the same counts, no intrinsics.
  * Each compiler's copy has names of its own, by -D'CALL(x)=..'. Compile with -ffp-contract=off. */
 #include <math.h>
 #include <string.h>
@@ -73,6 +73,12 @@ static void waves(const uint32_t *restrict phases, size_t count, uint32_t *restr
 INLINE int64_t wave(uint32_t raised) { return (int64_t)raised - (INT64_C(1) << 30); }
 
 INLINE int64_t nearest_30(int64_t sum) { return (sum + (INT64_C(1) << 29)) >> 30; }
+
+/* sum / over, its size below most: raised by that, so that the division is unsigned */
+INLINE int64_t nearest(int64_t sum, uint64_t over, uint64_t most)
+{
+    return (int64_t)(((uint64_t)sum + most * over + over / 2) / over) - (int64_t)most;
+}
 
 /* ---- step two */
 
@@ -284,6 +290,21 @@ uint32_t CALL(step_one)(uint32_t n, int64_t *c, size_t c_length, int64_t *s, siz
     return 0;
 }
 
+/* ---- pole tide */
+
+/* Both models over one denominator, 312500: 1.29 is 403125 of it, 1.348 is 421250, and 1.348 * 0.0112 is 4718. */
+uint32_t CALL(pole_tide)(uint32_t n, int64_t *c, size_t c_length, int64_t *s, size_t s_length, int64_t xp, int64_t yp, uint32_t love)
+{
+    static const int64_t real[2] = {403125, 421250}, imaginary[2] = {0, 4718};
+    uint32_t refusal;
+    if (love > 1) return 100;
+    if ((refusal = field_refusal(n, c, c_length, s, s_length))) return refusal;
+    if (((uint64_t)xp + 1000000 > 2000000) | ((uint64_t)yp + 1000000 > 2000000)) return 15;
+    c[4] += nearest(-real[love] * xp - imaginary[love] * yp, 312500, ONE << 21);
+    s[4] += nearest(real[love] * yp - imaginary[love] * xp, 312500, ONE << 21);
+    return 0;
+}
+
 /* ---- ocean tide */
 
 typedef struct { size_t lines, tides, places, wide; const uint8_t *line, *row, *place; } layout;
@@ -347,11 +368,6 @@ INLINE int valid(const layout *t)
     return !bad;
 }
 
-INLINE int64_t nearest_million(int64_t sum)
-{
-    return (int64_t)(((uint64_t)sum + UINT64_C(1099511627776500000)) / 1000000) - INT64_C(1099511627776);
-}
-
 /* Both factors of each tide, in unsigned products: with 2^22 added to an admittance and 2^30 to a wave,
  * sum (a - A)(w - W) = sum a*w - A * sum w - W * sum (a - A). */
 INLINE void factors(const layout *t, const uint32_t *sines, const uint32_t *cosines, int64_t *fcos, int64_t *fsin)
@@ -368,8 +384,8 @@ INLINE void factors(const layout *t, const uint32_t *sines, const uint32_t *cosi
             total += a;
         }
         total -= (uint64_t)t->lines << 22;
-        fcos[k] = nearest_million((int64_t)(x - (sum_c << 22) - (total << 30)));
-        fsin[k] = nearest_million((int64_t)(y - (sum_s << 22) - (total << 30)));
+        fcos[k] = nearest((int64_t)(x - (sum_c << 22) - (total << 30)), 1000000, ONE << 40);
+        fsin[k] = nearest((int64_t)(y - (sum_s << 22) - (total << 30)), 1000000, ONE << 40);
     }
 }
 

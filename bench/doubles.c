@@ -1,5 +1,5 @@
 /* What a user would write: a field of doubles, phases in radians, sine and cosine of the C library, nothing rounded to counts.
- * The sheet and the records of own lines are tested; the field, the bodies and the selection are taken on trust. */
+ * The sheet and the records of own lines are tested; the field, the bodies, the selection and the pole's offsets are taken on trust. */
 #include <math.h>
 #include <string.h>
 #include "bench.h"
@@ -107,6 +107,12 @@ void doubles_step_one(double *c, double *s, surfgimlet_body moon, surfgimlet_bod
         }
     }
     c[3] -= 4.4228e-8 * -0.31460 * real[love][0];
+}
+
+void doubles_pole_tide(double *c, double *s, double xp, double yp, uint32_t love)
+{
+    c[4] -= love ? 1.348e-9 * (xp + 0.0112 * yp) : 1.290e-9 * xp;
+    s[4] += love ? 1.348e-9 * (yp - 0.0112 * xp) : 1.290e-9 * yp;
 }
 
 typedef struct { size_t lines, tides, places; const uint8_t *line, *row, *place; } layout;
