@@ -5,7 +5,7 @@
 #include "lent.h"
 #include "surfgimlet.h"
 
-#define LEAST 21000 /* cases, so that an input cut short is noticed */
+#define LEAST 23000 /* cases, so that an input cut short is noticed */
 
 enum { STEP_ONE, STEP_TWO, OWN_LINES, POLE_TIDE, OCEAN_TIDE, MOVE_C20, MULTIPLIERS_OF, NUMBER_OF, FIND_LINE, ALL_LINES, MAJOR_LINES, CALLS };
 static const char *names[CALLS] = {"step_one", "step_two", "own_lines", "pole_tide", "ocean_tide", "move_c20", "multipliers_of", "number_of", "find_line",

@@ -1,10 +1,9 @@
 -- Each entry after the pole tide, where nothing is refused: C21 and S21 moved by their corrections, every other as before.
 use mathlib.Core.List.{List}
 use mathlib.Core.Path.{_≡_, ap, _∙_}
-use Prim.Native.Nat.{ℕ, zero, suc, _*_, _/_, _+_, _≤_, _<_}
+use Prim.Native.Nat.{ℕ, zero, suc}
 use native.Mathlib.Omega.{arith}
 use lib.IntN.{ℤ}
-use lib.ListN.{length}
 use Rattle.choices.specs.declared.LoveModel.{LoveModel}
 use Rattle.field.specs.Added.{corrected}
 use Rattle.field.specs.Field.{place, fieldRefusal}

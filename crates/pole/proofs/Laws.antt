@@ -1,7 +1,7 @@
 -- T-05's fractions are 001's formulas; each correction lies at most half a count from its fraction; and what no correction exceeds.
 use mathlib.Core.List.{[], _∷_}
 use mathlib.Core.Path.{_≡_, refl}
-use Prim.Native.Nat.{ℕ, _+_, _*_, _^_, _≤_}
+use Prim.Native.Nat.{_^_, _≤_}
 use native.Mathlib.Omega.{arith}
 use lib.IntN.{ℤ, pos, negℤ, natAbs, _+ℤ_, _-ℤ_, _*ℤ_}
 use Rattle.choices.specs.declared.LoveModel.{LoveModel}

@@ -2,6 +2,7 @@ pub mod Tests
 pub mod Parts
 pub mod Ring
 pub mod Machine
+pub mod Held
 pub mod Signs
 pub mod Floor
 pub mod Rounding
