@@ -15,15 +15,11 @@ use Rattle.crossing.specs.Inner.{names, Converts}
 use Rattle.crossing.proofs.Choices.{hundred, one-named, one-missing, three-named, three-missing}
 use Rattle.permanent.specs.Systems.{movedC20}
 use Rattle.leaving.specs.Leaving.{Leaves, GivesAndLeaves}
-use Rattle.refusals.specs.Outcome.{Outcome, Gives, GivesValue}
+use Rattle.refusals.specs.Outcome.{Outcome, GivesValue}
 use Rattle.refusals.specs.Told.{Told}
 use Rattle.refusals.specs.Told.Told.{accepted, refused}
 use Rattle.surfgimlet.specs.Calls.{stepOne, stepTwo, poleTide, oceanTide}
 use Rattle.boundary.specs.Calls.{outcomeOf, stepOneGiven, stepTwoGiven, poleGiven, oceanGiven, moveGiven}
-
--- the outcome in other words
-pub gives-same : {o o′ : Outcome} {k : ℕ} {c s : List ℤ} → o ≡ o′ → Gives o k c s → Gives o′ k c s
-gives-same {o} {o′} {k} {c} {s} e g = subst (λ (o : Outcome). Gives o k c s) e g
 
 -- a value that is told, left
 pub told-and-left : {A : Type 0} {o : Outcome} {value : A} {told : Told A} {c s : List ℤ} {number : ℕ} {before after : A} → GivesValue o value told c s → Leaves told before number after → GivesAndLeaves o value number c s before after

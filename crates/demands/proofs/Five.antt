@@ -44,7 +44,7 @@ module _ (l : List ℤ) (d : Corrections) where
   s-other k (inr h) = at-elsewhere placesS (forS d) l k (λ j b e. omega (arith, s-run j b))
 
 -- an entry of a list that an equation gives
-read : {l m : List ℤ} → l ≡ m → (k : ℕ) → at l k ≡ at m k
+pub read : {l m : List ℤ} → l ≡ m → (k : ℕ) → at l k ≡ at m k
 read e k = ap (λ (x : List ℤ). at x k) e
 
 module _ (number : ℕ) (c s : List ℤ) (d : Corrections) (passed : number ≡ 0) where

@@ -1,6 +1,6 @@
 -- Each entry after the pole tide, where nothing is refused: C21 and S21 moved by their corrections, every other as before.
 use mathlib.Core.List.{List}
-use mathlib.Core.Path.{_≡_, ap, _∙_}
+use mathlib.Core.Path.{_≡_, _∙_}
 use Prim.Native.Nat.{ℕ, zero, suc}
 use native.Mathlib.Omega.{arith}
 use lib.IntN.{ℤ}
@@ -15,6 +15,7 @@ use Rattle.refusals.specs.Outcome.{unlessRefused}
 use Rattle.refusals.proofs.Outcomes.{first-none}
 use Rattle.surfgimlet.specs.Calls.{poleTideRefusal, poleTide}
 use Rattle.demands.specs.Demands.{at, PoleEntries}
+use Rattle.demands.proofs.Five.{read}
 
 -- no S(n,0) stands at (2,1)
 order-zero-apart : (d : ℕ) → place d 0 ≡ 4 → ⊥
@@ -39,9 +40,6 @@ module _ (n : ℕ) (c s : List ℤ) (xp yp : ℤ) (love : LoveModel) (passed : p
   field : fieldRefusal n c s ≡ 0
   unfolding poleTideRefusal
   field = first-none _ _ passed .0
-
-  read : {l m : List ℤ} → l ≡ m → (k : ℕ) → at l k ≡ at m k
-  read e k = ap (λ (x : List ℤ). at x k) e
 
   s-other : (k : ℕ) → (k ≡ place 2 1 → ⊥) → at (poleTide n c s xp yp love .s) k ≡ at s k
   s-other k h = read s-is k ∙ corrected-elsewhere s (place 2 1) (d .s21) k h

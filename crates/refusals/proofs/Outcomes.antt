@@ -22,6 +22,10 @@ module _ {number k : ℕ} (c s c′ s′ : List ℤ) (told : k ≡ number) where
   unfolding unlessRefused
   gives-kept n = rw (ne-eqb number 0 n) (record { answer = told; list-c = refl; list-s = refl })
 
+-- and of an equal outcome
+pub gives-same : {o o′ : Outcome} {k : ℕ} {c s : List ℤ} → o ≡ o′ → Gives o k c s → Gives o′ k c s
+gives-same {o} {o′} {k} {c} {s} e g = subst (λ (o : Outcome). Gives o k c s) e g
+
 module _ (number : ℕ) (c s c′ s′ : List ℤ) where
   -- the outcome's number is the refusal's; and where it is not 0, both lists are as they were
   pub outcome-number : unlessRefused number c s c′ s′ .number ≡ number

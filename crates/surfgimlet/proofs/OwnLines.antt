@@ -1,5 +1,5 @@
 -- What a list's sums tell: accepted, they are the definition's, so their nearest are its corrections; refused, the outcome has no corrections.
-use mathlib.Core.Path.{_≡_, refl, ap, subst, _∙_}
+use mathlib.Core.Path.{_≡_, refl, ap, _∙_}
 use mathlib.Core.List.{List}
 use Prim.Native.Nat.{ℕ, zero, suc}
 use native.Mathlib.Omega.{arith}
@@ -11,8 +11,8 @@ use Rattle.bands.specs.Bands.{correctionsOf}
 use Rattle.bands.specs.Inner.{sumsOf, roundedOf}
 use Rattle.field.specs.Field.{fieldRefusal}
 use Rattle.refusals.specs.Numbers.{answerNumber}
-use Rattle.refusals.specs.Outcome.{Outcome, firstOf, unlessRefused, Gives}
-use Rattle.refusals.proofs.Outcomes.{first-none}
+use Rattle.refusals.specs.Outcome.{firstOf, unlessRefused, Gives}
+use Rattle.refusals.proofs.Outcomes.{first-none, gives-same}
 use Rattle.own.specs.declared.OwnLine.{OwnLine}
 use Rattle.own.specs.declared.Summed.{Summed}
 use Rattle.own.specs.Own.{recordsRefusal, ownCorrections}
@@ -39,4 +39,4 @@ told-own n c s lines phases sum t =
 
 pub own-lines-given : (n : ℕ) (c s : List ℤ) (lines : List OwnLine) (phases : Phases) (sum : Summed) (k : ℕ) (c′ s′ : List ℤ) → Totals phases lines sum
     → Gives (fiveCorrected (firstOf (fieldRefusal n c s) (answerNumber (sum .answer))) c s (roundedOf (sum .sums))) k c′ s′ → Gives (ownLines n c s lines phases) k c′ s′
-own-lines-given n c s lines phases sum k c′ s′ t g = subst (λ (o : Outcome). Gives o k c′ s′) (told-own n c s lines phases sum t) g
+own-lines-given n c s lines phases sum k c′ s′ t g = gives-same (told-own n c s lines phases sum t) g

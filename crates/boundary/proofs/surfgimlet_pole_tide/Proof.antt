@@ -3,8 +3,9 @@ use borrow.Author.Needs.{needs}
 use mathlib.Core.Path.{refl, sym, ap₂, _∙_}
 use lib.IntN.{ℤ}
 use mir.Facts.{toZ-ofZ}
+use Rattle.refusals.proofs.Outcomes.{gives-same}
 use Rattle.surfgimlet.specs.Calls.{poleTide}
-use Rattle.boundary.proofs.Given.{gives-same, pole-named, pole-missing}
+use Rattle.boundary.proofs.Given.{pole-named, pole-missing}
 use Rattle.boundary.proofs.surfgimlet_pole_tide.Statement.{statement}
 use Rattle.boundary.proofs.surfgimlet_pole_tide.Tie as tie
 
