@@ -45,7 +45,7 @@ pub at-a-half : corrections (pos 50) (pos 50) Elastic ≡ record { c21 = negℤ 
 unfolding corrections exactC21 exactS21 nearest
 at-a-half = refl
 
--- of offsets that are not refused no correction is larger, and (-1,000,000, -1,000,000) has one of that size
+-- of offsets that are not refused no correction is larger
 module _ (xp yp : ℤ) (accepted : offsetsRefusal xp yp ≡ 0) where
   most : (natAbs xp ≤ 1000000) × (natAbs yp ≤ 1000000)
   most = within-an-arcsecond xp yp .0 accepted
@@ -66,3 +66,8 @@ module _ (xp yp : ℤ) (accepted : offsetsRefusal xp yp ≡ 0) where
         nearest-size (pos 1348 *ℤ (c -ℤ d)) (10 ^ 7) 1363098 (omega arith)
             (omega (arith, abs-product (pos 1348) (c -ℤ d), abs-difference c d, abs-product (pos 10000) yp, abs-product (pos 112) xp, most .0, most .1)),
       )
+
+-- and one is as large
+pub most-reached : corrections (negℤ (pos 1000000)) (negℤ (pos 1000000)) Anelastic .c21 ≡ pos 1363098
+unfolding corrections exactC21 exactS21 nearest
+most-reached = refl

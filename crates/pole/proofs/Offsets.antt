@@ -7,10 +7,11 @@ use Prim.Native.Nat.{ℕ, _≤_}
 use native.Mathlib.Omega.{arith}
 use lib.IntN.{ℤ, negℤ, natAbs}
 use mir.Syntax.{w64}
-use mir.Val.{SFits, toZ, ofZ}
+use mir.Val.{SFits}
 use mir.Facts.{toZ-ofZ}
 use Rattle.limits.specs.Limits.{isPoleOffset}
 use Rattle.whole.proofs.Held.{Held}
+use Rattle.whole.proofs.Machine.{read}
 use Rattle.whole.proofs.Parts.{abs-neg}
 use Rattle.whole.proofs.Tests.{and-left, and-right}
 use Rattle.pole.specs.Pole.{offsetsRefusal}
@@ -39,5 +40,5 @@ within-an-arcsecond xp yp =
 pub minus-offset : (z : ℤ) → isPoleOffset z ≡ true → isPoleOffset (negℤ z) ≡ true
 minus-offset z offset = rw (abs-neg z) offset
 
-pub offset-held : (z : ℤ) → SFits w64 z → isPoleOffset z ≡ true → Held (toZ w64 (ofZ w64 z)) z 1000000
+pub offset-held : (z : ℤ) → SFits w64 z → isPoleOffset z ≡ true → Held (read z) z 1000000
 offset-held z fits offset = record { reads = toZ-ofZ fits; most = leb-true _ _ offset }

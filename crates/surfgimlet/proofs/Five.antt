@@ -7,7 +7,6 @@ use lib.IntN.{ℤ, pos, natAbs}
 use lib.ListN.{length, getD}
 use mir.Syntax.{w64}
 use mir.Facts.{toZ-ofZ}
-use mir.Val.{toZ, ofZ}
 use Rattle.bands.specs.declared.Corrections.{Corrections}
 use Rattle.bands.specs.Inner.{Small as SmallCorrections}
 use Rattle.field.specs.Added.{addedAt}
@@ -17,12 +16,10 @@ use Rattle.field.proofs.Accepted.{accepted-field, degree-two}
 use Rattle.field.proofs.Added.{the-places, at-run}
 use Rattle.refusals.specs.Outcome.{Gives}
 use Rattle.refusals.proofs.Outcomes.{gives-new, gives-kept}
+use Rattle.whole.proofs.Machine.{read}
 use Rattle.whole.proofs.Parts.{fits-abs}
 use Rattle.surfgimlet.specs.Calls.{forC, forS, placesC, placesS, fiveCorrected}
 use Rattle.surfgimlet.specs.Inner.{FiveReady}
-
-abbrev read : ℤ → ℤ
-read z = toZ w64 (ofZ w64 z)
 
 -- the places stand one after the other
 pub c-run : (k : ℕ) → k < length placesC → the-places placesC k ≡ 3 + k

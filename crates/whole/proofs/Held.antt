@@ -5,8 +5,9 @@ use native.Mathlib.Nat.{mul-le-mul}
 use native.Mathlib.Omega.{arith}
 use lib.IntN.{ℤ, natAbs, _+ℤ_, _*ℤ_}
 use mir.Syntax.{w64}
-use mir.Val.{SFits, toZ, ofZ}
+use mir.Val.{SFits}
 use mir.Facts.{toZ-ofZ}
+use Rattle.whole.proofs.Machine.{read}
 use Rattle.whole.proofs.Parts.{fits-abs, abs-product, abs-sum}
 
 -- h, as the machine works it out, is the number z, of at most m
@@ -18,7 +19,7 @@ module _ {h z : ℤ} {m : ℕ} (a : Held h z m) where
   pub room : m < 2 ^ 63 → SFits w64 h
   room l = rw (a .reads) (fits-abs w64 z (omega (arith, a .most)))
 
-  pub held : m < 2 ^ 63 → Held (toZ w64 (ofZ w64 h)) z m
+  pub held : m < 2 ^ 63 → Held (read h) z m
   held l = record { reads = toZ-ofZ (room l) ∙ a .reads; most = a .most }
 
   pub times : (k : ℤ) → Held (k *ℤ h) (k *ℤ z) (natAbs k * m)

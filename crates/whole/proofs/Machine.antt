@@ -6,7 +6,7 @@ use native.Mathlib.Omega.{arith}
 use lib.Dec.{T, leb, leb·suc-suc}
 use lib.IntN.{ℤ, pos, negsuc, negℤ, natAbs, _+ℤ_, _-ℤ_, +ℤ-idl}
 use lib.Signed.{ltZ, leZ, ltZ-yes, ltZ-no, nonNeg, mag}
-use mir.Syntax.{Width}
+use mir.Syntax.{Width, w64}
 use mir.Val.{SFits, toZ, ofZ, hbits}
 use mir.Facts.{toZ-ofZ}
 use Rattle.whole.proofs.Parts.{up, dn, below→, less→, fits-abs, abs-sum, abs, abs-le, difference}
@@ -31,6 +31,10 @@ sum-fits w a b h = fits-abs w (a +ℤ b) (omega (arith, abs-sum a b))
 
 pub difference-fits : (w : Width) (a b : ℤ) → natAbs a + natAbs b < 2 ^ hbits w → SFits w (a -ℤ b)
 difference-fits w a b h = fits-abs w (a -ℤ b) (omega (arith, abs-difference a b))
+
+-- what the machine reads of the 64 bits that it holds for a number
+abbrev pub read : ℤ → ℤ
+read z = toZ w64 (ofZ w64 z)
 
 -- what the machine reads back of a call's result, whose range is `c .f .ok`
 pub back : (w : Width) (z : ℤ) → mag z < 2 ^ hbits w → toZ w (ofZ w z) ≡ z

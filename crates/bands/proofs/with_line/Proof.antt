@@ -3,8 +3,7 @@ use borrow.Author.Needs.{needs}
 use mathlib.Core.Path.{_≡_}
 use native.Mathlib.Omega.{arith}
 use lib.IntN.{ℤ, pos, negℤ, _-ℤ_}
-use mir.Syntax.{w64}
-use mir.Val.{toZ, ofZ}
+use Rattle.whole.proofs.Machine.{read as held}
 use Rattle.bands.specs.declared.Sums.{Sums}
 use Rattle.bands.proofs.Terms.{read, minus-fits, minus-read, minus-held, grown, diurnal, long-period, semidiurnal}
 use Rattle.bands.proofs.with_line.Statement.{statement}
@@ -32,9 +31,6 @@ module _ (c : tie.Start) where
 
   abbrev sums : Sums
   sums = c .args .sums
-
-  abbrev held : ℤ → ℤ
-  held z = toZ w64 (ofZ w64 z)
 
   ip-read : held ip ≡ ip
   ip-read = read ip (omega (arith, c .pre .line-small .ip))

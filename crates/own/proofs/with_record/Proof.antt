@@ -6,7 +6,6 @@ use Prim.Native.Nat.{ℕ, _^_, _≤_}
 use native.Mathlib.Omega.{arith}
 use lib.IntN.{ℤ, natAbs}
 use mir.Syntax.{w64}
-use mir.Val.{toZ, ofZ}
 use mir.Facts.{toZ-ofZ}
 use Rattle.arguments.specs.declared.Phases.{Phases}
 use Rattle.arguments.specs.Phase.{phase}
@@ -19,6 +18,7 @@ use Rattle.refusals.specs.declared.Answer.{Answer}
 use Rattle.refusals.specs.declared.Answer.the-variants.{Accepted, Refused}
 use Rattle.wave.specs.Wave.{sin, cos}
 use Rattle.wave.proofs.Size.{sin-size, cos-size}
+use Rattle.whole.proofs.Machine.{read}
 use Rattle.whole.proofs.Parts.{fits-abs}
 use Rattle.own.specs.declared.OwnLine.{OwnLine}
 use Rattle.own.specs.declared.Summed.{Summed}
@@ -43,12 +43,9 @@ module _ (phases : Phases) (sum : Summed) (l : OwnLine) where
   unfolding after
   added e f r g = rw (e, f, g) refl
 
-abbrev held : ℤ → ℤ
-held z = toZ w64 (ofZ w64 z)
-
 -- a wave as the machine reads it
-wave-read : {w : ℤ} (v : ℤ) → w ≡ v → natAbs v ≤ 2 ^ 30 → held w ≡ v
-wave-read v e h = ap held e ∙ toZ-ofZ (fits-abs w64 v (omega arith))
+wave-read : {w : ℤ} (v : ℤ) → w ≡ v → natAbs v ≤ 2 ^ 30 → read w ≡ v
+wave-read v e h = ap read e ∙ toZ-ofZ (fits-abs w64 v (omega arith))
 
 wave-small : {w : ℤ} (v : ℤ) → w ≡ v → natAbs v ≤ 2 ^ 30 → natAbs w ≤ 2 ^ 31
 wave-small v e h = rw e (omega arith)
@@ -70,10 +67,10 @@ module _ (c : tie.After-line-of) where
   at-phase : c .before .before .phase-of .result ≡ at
   at-phase = c .before .before .phase-of .ensures ∙ ap (λ m. phase m (start .args .phases)) (c .before .before .before .multipliers-of .ensures)
 
-  cosine : held (c .before .wave-of .result .cosine) ≡ cos at
+  cosine : read (c .before .wave-of .result .cosine) ≡ cos at
   cosine = wave-read (cos at) (c .before .wave-of .ensures .1 ∙ ap cos at-phase) (cos-size at)
 
-  sine : held (c .before .wave-of .result .sine) ≡ sin at
+  sine : read (c .before .wave-of .result .sine) ≡ sin at
   sine = wave-read (sin at) (c .before .wave-of .ensures .0 ∙ ap sin at-phase) (sin-size at)
 
 line-of-requires : tie.Need-line-of-requires

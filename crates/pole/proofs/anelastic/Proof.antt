@@ -4,16 +4,12 @@ use Prim.Native.Nat.{_*_, _^_}
 use native.Mathlib.Omega.{arith}
 use lib.IntN.{ℤ, pos, _+ℤ_, _*ℤ_}
 use mir.Syntax.{w64}
-use mir.Val.{toZ, ofZ}
 use Rattle.whole.proofs.Held.{Held, room, held, times, plus, ready}
-use Rattle.whole.proofs.Machine.{back}
+use Rattle.whole.proofs.Machine.{back, read}
 use Rattle.whole.specs.Nearest.{nearest}
 use Rattle.pole.proofs.Offsets.{offset-held}
 use Rattle.pole.proofs.anelastic.Statement.{statement}
 use Rattle.pole.proofs.anelastic.Tie as tie
-
-abbrev read : ℤ → ℤ
-read z = toZ w64 (ofZ w64 z)
 
 module _ (c : tie.Start) where
   abbrev x : ℤ

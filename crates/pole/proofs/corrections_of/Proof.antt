@@ -7,19 +7,16 @@ use Prim.Native.Nat.{_^_, _<_}
 use native.Mathlib.Omega.{arith}
 use lib.IntN.{ℤ, pos, negℤ, natAbs, _+ℤ_, _-ℤ_, _*ℤ_}
 use mir.Syntax.{w64}
-use mir.Val.{SFits, toZ, ofZ}
+use mir.Val.{SFits, ofZ}
 use mir.Facts.{toZ-ofZ}
 use Rattle.limits.specs.Limits.{isPoleOffset}
 use Rattle.whole.specs.Nearest.{nearest}
-use Rattle.whole.proofs.Machine.{back, minus-fits, minus-read}
+use Rattle.whole.proofs.Machine.{back, read, minus-fits, minus-read}
 use Rattle.whole.proofs.Ring.{equal, !, #, _⊕_, _⊖_, _⊗_, ⊝}
 use Rattle.pole.specs.Pole.{exactC21, exactS21, corrections}
 use Rattle.pole.proofs.Offsets.{x-offset, y-offset, offset-held, minus-offset}
 use Rattle.pole.proofs.corrections_of.Statement.{statement}
 use Rattle.pole.proofs.corrections_of.Tie as tie
-
-abbrev read : ℤ → ℤ
-read z = toZ w64 (ofZ w64 z)
 
 -- an offset as the machine holds it, and minus it
 module _ (z : ℤ) (fits : SFits w64 z) (offset : isPoleOffset z ≡ true) where

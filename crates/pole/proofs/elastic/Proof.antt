@@ -4,9 +4,8 @@ use Prim.Native.Nat.{_*_}
 use native.Mathlib.Omega.{arith}
 use lib.IntN.{ℤ, pos, _*ℤ_}
 use mir.Syntax.{w64}
-use mir.Val.{toZ, ofZ}
 use Rattle.whole.proofs.Held.{Held, room, held, times, ready}
-use Rattle.whole.proofs.Machine.{back}
+use Rattle.whole.proofs.Machine.{back, read}
 use Rattle.whole.specs.Nearest.{nearest}
 use Rattle.pole.proofs.Offsets.{offset-held}
 use Rattle.pole.proofs.elastic.Statement.{statement}
@@ -16,10 +15,10 @@ module _ (c : tie.Start) where
   abbrev x : ℤ
   x = c .args .x
 
-  product : Held (pos 1290 *ℤ toZ w64 (ofZ w64 x)) (pos 1290 *ℤ x) (1290 * 1000000)
+  product : Held (pos 1290 *ℤ read x) (pos 1290 *ℤ x) (1290 * 1000000)
   product = times (offset-held x (c .fits .x) (c .pre)) (pos 1290)
 
-  product-held : Held (toZ w64 (ofZ w64 (pos 1290 *ℤ toZ w64 (ofZ w64 x)))) (pos 1290 *ℤ x) (1290 * 1000000)
+  product-held : Held (read (pos 1290 *ℤ read x)) (pos 1290 *ℤ x) (1290 * 1000000)
   product-held = held product (omega arith)
 
 returns : tie.Need-returns

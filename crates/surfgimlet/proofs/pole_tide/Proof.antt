@@ -6,7 +6,6 @@ use native.Mathlib.Omega.{arith}
 use lib.IntN.{ℤ, natAbs}
 use lib.ListN.{length}
 use mir.Syntax.{w64}
-use mir.Val.{toZ, ofZ}
 use mir.Facts.{toZ-ofZ}
 use Rattle.field.specs.Added.{corrected}
 use Rattle.field.specs.Field.{fieldRefusal, place}
@@ -19,6 +18,7 @@ use Rattle.refusals.specs.Numbers.{answerNumber}
 use Rattle.refusals.specs.Outcome.{firstOf}
 use Rattle.refusals.proofs.Numbers.{refusal-not-zero}
 use Rattle.refusals.proofs.Outcomes.{gives-new, gives-kept, first-none}
+use Rattle.whole.proofs.Machine.{read}
 use Rattle.whole.proofs.Parts.{fits-abs}
 use Rattle.surfgimlet.specs.Calls.{poleTideRefusal, poleTide}
 use Rattle.surfgimlet.proofs.pole_tide.Statement.{statement}
@@ -73,10 +73,10 @@ module _ (c : tie.After-corrections-of) where
   most : (natAbs (d .c21) ≤ 1363098) × (natAbs (d .s21) ≤ 1363098)
   most = at-most (x .args .xp) (x .args .yp) (both (c .before) .1) (x .args .love)
 
-  read-c21 : toZ w64 (ofZ w64 (c .corrections-of .result .c21)) ≡ d .c21
+  read-c21 : read (c .corrections-of .result .c21) ≡ d .c21
   read-c21 = rw same (toZ-ofZ (fits-abs w64 (d .c21) (omega (arith, most .0))))
 
-  read-s21 : toZ w64 (ofZ w64 (c .corrections-of .result .s21)) ≡ d .s21
+  read-s21 : read (c .corrections-of .result .s21) ≡ d .s21
   read-s21 = rw same (toZ-ofZ (fits-abs w64 (d .s21) (omega (arith, most .1))))
 
 returns : tie.Need-returns
