@@ -12,7 +12,7 @@
 #define ROUNDS 300
 #define CALLS 80000
 
-enum { STEP_ONE, STEP_TWO, OWN, POLE, OCEAN, KINDS };
+enum { SOLID, OWN, POLE, OCEAN, KINDS };
 
 /* what a call is given */
 static uint32_t n, choice;
@@ -33,17 +33,18 @@ static uint32_t answer, named;
 
 /* ---- the ways */
 
-typedef struct { const char *name; step_one_call *one; step_two_call *two; own_call *own; pole_call *pole; ocean_call *ocean; } way;
+/* the solid tide is one call, or the two steps where that is 0 */
+typedef struct { const char *name; solid_call *solid; own_call *own; pole_call *pole; ocean_call *ocean; step_one_call *one; step_two_call *two; } way;
 
 static const way ways[] = {
-    {"unit", surfgimlet_step_one, surfgimlet_step_two, surfgimlet_own_lines, surfgimlet_pole_tide, surfgimlet_ocean_tide},
-    {"gcc", gcc_step_one, gcc_step_two, gcc_own_lines, gcc_pole_tide, gcc_ocean_tide},
+    {"unit", surfgimlet_solid_tide, surfgimlet_own_lines, surfgimlet_pole_tide, surfgimlet_ocean_tide, 0, 0},
+    {"gcc", gcc_solid_tide, gcc_own_lines, gcc_pole_tide, gcc_ocean_tide, 0, 0},
 #ifdef WITH_CLANG
-    {"clang", clang_step_one, clang_step_two, clang_own_lines, clang_pole_tide, clang_ocean_tide},
+    {"clang", clang_solid_tide, clang_own_lines, clang_pole_tide, clang_ocean_tide, 0, 0},
 #endif
 #ifdef WITH_EARLIER
-    {"earlier", earlier_surfgimlet_step_one, earlier_surfgimlet_step_two, earlier_surfgimlet_own_lines, earlier_surfgimlet_pole_tide,
-     earlier_surfgimlet_ocean_tide},
+    {"earlier", earlier_surfgimlet_solid_tide, earlier_surfgimlet_own_lines, earlier_surfgimlet_pole_tide, earlier_surfgimlet_ocean_tide,
+     earlier_surfgimlet_step_one, earlier_surfgimlet_step_two},
 #endif
 };
 #define WAYS ((int)(sizeof ways / sizeof *ways))
@@ -54,8 +55,9 @@ static const way ways[] = {
 #define EARLIER WAYS
 #endif
 
-/* an earlier archive may be without the pole tide */
+/* an earlier archive may be without the pole tide, or make the solid tide in two steps */
 static int has(int by, int what) { return what != POLE || by == DOUBLES || ways[by].pole; }
+static int in_two_steps(int by, int what) { return what == SOLID && by != DOUBLES && !ways[by].solid; }
 
 static size_t size_of(uint32_t degree) { return (size_t)(degree + 1) * (degree + 2) / 2; }
 
@@ -63,15 +65,15 @@ static void call(int what, int by)
 {
     size_t size = size_of(n);
     if (by == DOUBLES) {
-        if (what == STEP_ONE) doubles_step_one(cd, sd, moon, sun, choice);
-        else if (what == STEP_TWO) doubles_step_two(cd, sd, radians, choice, selection);
+        if (what == SOLID) doubles_solid_tide(cd, sd, moon, sun, choice, radians, selection);
         else if (what == OWN) answer = doubles_own_lines(cd, sd, lines, lines_length, radians);
         else if (what == POLE) doubles_pole_tide(cd, sd, arcseconds[0], arcseconds[1], choice);
         else answer = doubles_ocean_tide(n, cd, sd, sheet, length, radians, choice);
-    } else if (what == STEP_ONE) {
+    } else if (in_two_steps(by, what)) {
         answer = ways[by].one(n, c, size, s, size, moon, sun, choice);
-    } else if (what == STEP_TWO) {
-        answer = ways[by].two(n, c, size, s, size, phases, choice, selection, &named);
+        if (!answer) answer = ways[by].two(n, c, size, s, size, phases, choice, selection, &named);
+    } else if (what == SOLID) {
+        answer = ways[by].solid(n, c, size, s, size, moon, sun, choice, phases, selection, &named);
     } else if (what == OWN) {
         answer = ways[by].own(n, c, size, s, size, lines, lines_length, phases);
     } else if (what == POLE) {
@@ -127,8 +129,8 @@ static void spoil(surfgimlet_own_line *line)
     else *(which == 6 ? &line->ip : &line->op) = any_end(100000);
 }
 
-/* the selection that names so many: all 49, or the 21 major ones */
-static void make_selection(int count) { selection = count == 49 ? surfgimlet_all_lines() : surfgimlet_major_lines(); }
+/* the selection that names so many: all 49, the 21 major ones, or none */
+static void make_selection(int count) { selection = count == 49 ? surfgimlet_all_lines() : count == 21 ? surfgimlet_major_lines() : 0; }
 
 /* all lines, all that the elastic model uses and others, the major ones, most, half, a quarter, one, few or none */
 static uint64_t any_selection(void)
@@ -225,9 +227,21 @@ static surfgimlet_body any_body(double ratio, double least, double most)
 
 /* ---- best.c held to the unit, and the earlier archive compared with it */
 
-static long earlier_differs;
+static long earlier_compared, earlier_differs;
 
-static void hold(int what)
+/* The two steps refuse in another order, and the second also what the first has left outside the range: they are compared where the unit accepts and leaves
+ * every entry 2^20 within it, more than the lines add. */
+static int comparable(uint32_t unit, const int64_t *c_unit, const int64_t *s_unit)
+{
+    int64_t most = (INT64_C(1) << 60) - (1 << 20);
+    if (unit) return 0;
+    for (size_t k = 0; k < SIZE; k++)
+        if (c_unit[k] < -most || c_unit[k] > most || s_unit[k] < -most || s_unit[k] > most) return 0;
+    return 1;
+}
+
+/* the unit's answer, which best.c's is */
+static uint32_t hold(int what)
 {
     static int64_t c_before[SIZE], s_before[SIZE], c_unit[SIZE], s_unit[SIZE];
     uint32_t unit, named_before = (uint32_t)any(UINT64_C(1) << 32), named_unit;
@@ -240,7 +254,8 @@ static void hold(int what)
     memcpy(c_unit, c, sizeof c);
     memcpy(s_unit, s, sizeof s);
     for (int by = 1; by < WAYS; by++) {
-        if (!has(by, what)) continue;
+        if (!has(by, what) || in_two_steps(by, what) && !comparable(unit, c_unit, s_unit)) continue;
+        if (by == EARLIER) earlier_compared++;
         memcpy(c, c_before, sizeof c);
         memcpy(s, s_before, sizeof s);
         named = named_before;
@@ -255,17 +270,37 @@ static void hold(int what)
             exit(1);
         }
     }
+    return unit;
 }
 
-/* accepted calls, and calls with one thing at fault: an entry, a float, the Moon's mass, a byte of the sheet, its length, N, a record, the selection,
- * one offset or both */
+/* one thing at fault, where the call reads it: an entry, a float of a body, a byte of the sheet, its length, the Moon's mass, a record, the selection,
+ * one offset or both, a body's kind */
+static void spoil_any(void)
+{
+    static const double floats[8] = {0, -1, 1e8, 1e12, 1e160, -0.0, 1e6, 2.5e11};
+    int64_t edge = (int64_t)1 << 60;
+    switch (any(12)) {
+    case 0: (any(2) ? c : s)[any(size_of(4))] = (any(2) ? edge : -edge) + within(1); break;
+    case 1: *(&(any(2) ? &moon : &sun)->ratio + any(5)) = any(4) ? floats[any(8)] : any(2) ? NAN : INFINITY; break;
+    case 2: sheet[any(length + 1)] = (uint8_t)any(256); break;
+    case 3: if (length) length += (size_t)within(1); break;
+    case 4: moon = any_body((double)(100000 + any(900001)), 1e8, 1.5e8); break;
+    case 5: if (lines_length) spoil(&lines[any(lines_length)]); break;
+    case 6: selection |= UINT64_C(1) << (49 + any(15)); break;
+    case 7: xp = any_end(1000000); break;
+    case 8: xp = any_end(1000000); yp = any_end(1000000); break;
+    case 9: yp = any_end(1000000); break;
+    case 10: (any(2) ? &moon : &sun)->kind = 1 + (uint32_t)any(2); break;
+    }
+}
+
+/* accepted calls, and calls with something at fault: N, the choice, and what spoil_any takes, twice in a quarter of the calls, so that the order shows */
 static void hold_all(void)
 {
     static const uint32_t degrees[6] = {4, 12, 60, 7, 3, 61};
-    static const double floats[8] = {0, -1, 1e8, 1e12, 1e160, -0.0, 1e6, 2.5e11};
     long refused[101] = {0};
     for (long i = 0; i < CALLS; i++) {
-        int what = (int)(i % KINDS), fault = (int)any(12);
+        int what = (int)(i % KINDS);
         int64_t edge = (int64_t)1 << 60;
         n = degrees[any(100) ? any(4) : any(6)];
         choice = (uint32_t)any(40) ? (uint32_t)any(2) : 2;
@@ -276,24 +311,19 @@ static void hold_all(void)
         sun = any_body(any(20) ? 332946 : 1e5, any(20) ? 1.4e11 : 1e8, 1.5e11);
         if (what == OCEAN) make_sheet(1 + (int)any(8), 1 + (int)any(4), (int)any(16));
         if (what == OWN) make_lines(any(8) ? (int)any(65) : 60 + (int)any(11));
-        if (what == STEP_TWO) selection = any_selection();
+        if (what == SOLID) selection = any_selection();
         if (what == POLE) make_offsets();
-        if (fault == 0) (any(2) ? c : s)[any(size_of(4))] = (any(2) ? edge : -edge) + within(1);
-        if (fault == 1) *(&(any(2) ? &moon : &sun)->ratio + any(5)) = any(4) ? floats[any(8)] : any(2) ? NAN : INFINITY;
-        if (fault == 2) sheet[any(length + 1)] = (uint8_t)any(256);
-        if (fault == 3 && length) length += (size_t)within(1);
-        if (fault == 4) moon = any_body((double)(100000 + any(900001)), 1e8, 1.5e8);
-        if (fault == 5 && lines_length) spoil(&lines[any(lines_length)]);
-        if (fault == 6) selection |= UINT64_C(1) << (49 + any(15));
-        if (fault == 7 || fault == 8) xp = any_end(1000000);
-        if (fault == 8 || fault == 9) yp = any_end(1000000);
-        hold(what);
-        refused[answer]++;
+        spoil_any();
+        if (!any(4)) spoil_any();
+        refused[hold(what)]++;
     }
     printf("best.c: the unit's answers, counts and numbers of lines on %d calls; answered", CALLS);
     for (int i = 0; i <= 100; i++) if (refused[i]) printf(" %d: %ld", i, refused[i]);
-    if (EARLIER < WAYS) printf("\nthe earlier archive: other answers, counts or numbers of lines than the unit's on %ld of them", earlier_differs);
-    if (!has(EARLIER, POLE)) printf(", the pole tide's left out, since it has none");
+    if (EARLIER < WAYS) {
+        printf("\nthe earlier archive: other answers, counts or numbers of lines than the unit's on %ld of %ld of them", earlier_differs, earlier_compared);
+        if (in_two_steps(EARLIER, SOLID)) printf(", its two steps compared where the unit accepts the solid tide and leaves every entry 2^20 within the range");
+        if (!has(EARLIER, POLE)) printf(", the pole tide's left out, since it has none");
+    }
     puts("\n");
 }
 
@@ -335,7 +365,7 @@ static double best_c(const double *best, const char **by)
 
 typedef struct { const char *name; int what; int lines, tides, places; uint32_t n, choice; double of_c, of_doubles; int epochs; } row;
 
-/* lines are a sheet's, own ones, or those that step two's selection names; of_c and of_doubles are the ratios to reach, 0 where none is set */
+/* lines are a sheet's, own ones, or those that the solid tide's selection names; of_c and of_doubles are the ratios to reach, 0 where none is set */
 static const row rows[] = {
     {"ocean 128/32/90", OCEAN, 128, 32, 90, 12, 0, 1.10, 0.90, ONE},
     {"ocean 128/32/90", OCEAN, 128, 32, 90, 60, 0, 1.10, 0, ONE},
@@ -345,23 +375,18 @@ static const row rows[] = {
     {"ocean 8/2/6", OCEAN, 8, 2, 6, 4, 0, 0, 0, ONE},
     {"ocean 8/2/6", OCEAN, 8, 2, 6, 12, 0, 1.25, 0, ONE},
     {"ocean 8/2/6", OCEAN, 8, 2, 6, 60, 0, 0, 0, ONE},
-    {"step two, anelastic", STEP_TWO, 49, 0, 0, 4, 1, 1.35, 0, ONE},
-    {"step two, anelastic", STEP_TWO, 49, 0, 0, 12, 1, 1.35, 0.95, ONE},
-    {"step two, anelastic", STEP_TWO, 49, 0, 0, 60, 1, 1.20, 0, ONE},
-    {"step two, anelastic, along an arc", STEP_TWO, 49, 0, 0, 4, 1, 0, 0, ARC},
-    {"step two, anelastic, at random", STEP_TWO, 49, 0, 0, 4, 1, 0, 0, RANDOM},
-    {"step two, anelastic, major lines", STEP_TWO, 21, 0, 0, 12, 1, 0, 0, ONE},
-    {"step two, elastic", STEP_TWO, 49, 0, 0, 4, 0, 1.35, 0, ONE},
-    {"step two, elastic", STEP_TWO, 49, 0, 0, 12, 0, 1.35, 0, ONE},
-    {"step two, elastic", STEP_TWO, 49, 0, 0, 60, 0, 0, 0, ONE},
+    {"solid tide, anelastic", SOLID, 49, 0, 0, 4, 1, 1.35, 0, ONE},
+    {"solid tide, anelastic", SOLID, 49, 0, 0, 12, 1, 1.35, 0.95, ONE},
+    {"solid tide, anelastic", SOLID, 49, 0, 0, 60, 1, 1.20, 0, ONE},
+    {"solid tide, anelastic, along an arc", SOLID, 49, 0, 0, 4, 1, 0, 0, ARC},
+    {"solid tide, anelastic, at random", SOLID, 49, 0, 0, 4, 1, 0, 0, RANDOM},
+    {"solid tide, anelastic, major lines", SOLID, 21, 0, 0, 12, 1, 0, 0, ONE},
+    {"solid tide, anelastic, no line", SOLID, 0, 0, 0, 12, 1, 0, 0, ONE},
+    {"solid tide, elastic", SOLID, 49, 0, 0, 4, 0, 1.35, 0, ONE},
+    {"solid tide, elastic", SOLID, 49, 0, 0, 12, 0, 1.35, 0, ONE},
+    {"solid tide, elastic", SOLID, 49, 0, 0, 60, 0, 0, 0, ONE},
     {"own lines 64", OWN, 64, 0, 0, 12, 0, 0, 0, ONE},
     {"own lines 64", OWN, 64, 0, 0, 60, 0, 0, 0, ONE},
-    {"step one, anelastic", STEP_ONE, 0, 0, 0, 4, 1, 1.10, 0, ONE},
-    {"step one, anelastic", STEP_ONE, 0, 0, 0, 12, 1, 1.10, 0, ONE},
-    {"step one, anelastic", STEP_ONE, 0, 0, 0, 60, 1, 1.10, 0, ONE},
-    {"step one, elastic", STEP_ONE, 0, 0, 0, 4, 0, 0, 0, ONE},
-    {"step one, elastic", STEP_ONE, 0, 0, 0, 12, 0, 0, 0, ONE},
-    {"step one, elastic", STEP_ONE, 0, 0, 0, 60, 0, 0, 0, ONE},
     {"pole tide, anelastic", POLE, 0, 0, 0, 4, 1, 0, 0, ONE},
     {"pole tide, anelastic", POLE, 0, 0, 0, 12, 1, 0, 0, ONE},
     {"pole tide, anelastic", POLE, 0, 0, 0, 60, 1, 0, 0, ONE},
@@ -384,7 +409,7 @@ static void compare(const row *r)
     choice = r->choice;
     if (r->what == OCEAN) make_sheet(r->lines, r->tides, r->places);
     if (r->what == OWN) make_lines(r->lines);
-    if (r->what == STEP_TWO) make_selection(r->lines);
+    if (r->what == SOLID) make_selection(r->lines);
     make_epochs(r->epochs);
     memset(c, 0, sizeof c);
     memset(s, 0, sizeof s);
@@ -406,14 +431,14 @@ static void grow(const char *what, int kind, const int sizes[4][4], int part)
     double best[4][WAYS + 1], more;
     for (int i = 0; i < 4; i++)
         for (int by = 0; by <= WAYS; by++) best[i][by] = 1e18;
-    choice = kind == STEP_TWO;
+    choice = kind == SOLID;
     make_epochs(ONE);
     for (int k = 0; k < ROUNDS; k++)
         for (int i = 0; i < 4; i++) {
             n = (uint32_t)sizes[i][3];
             if (kind == OCEAN) make_sheet(sizes[i][0], sizes[i][1], sizes[i][2]);
             if (kind == OWN) make_lines(sizes[i][0]);
-            if (kind == STEP_TWO) make_selection(sizes[i][0]);
+            if (kind == SOLID) make_selection(sizes[i][0]);
             for (int by = 0; by < WAYS; by++) time_once(kind, by, &best[i][by]);
         }
     more = part < 3 ? sizes[3][part] - sizes[0][part] : 2.0 * (double)(size_of((uint32_t)sizes[3][3]) - size_of((uint32_t)sizes[0][3]));
@@ -454,6 +479,6 @@ int main(void)
     grow("tide: 4, 8, 16, 32", OCEAN, by_tide, 1);
     grow("place: 0, 30, 60, 90", OCEAN, by_place, 2);
     grow("own line: 8, 16, 32, 64", OWN, by_own, 0);
-    grow("entry: step two at N = 4, 12, 30, 60", STEP_TWO, by_entry, 3);
+    grow("entry: the solid tide at N = 4, 12, 30, 60", SOLID, by_entry, 3);
     return 0;
 }

@@ -1,4 +1,4 @@
-/* The unit's five calls over a field, in C written for speed: the same refusals in the same order and the same counts, no intrinsics.
+/* The unit's four calls over a field, in C written for speed: the same refusals in the same order and the same counts, no intrinsics.
  * Each compiler's copy has names of its own, by -D'CALL(x)=..'. Compile with -ffp-contract=off. */
 #include <math.h>
 #include <string.h>
@@ -80,7 +80,7 @@ INLINE int64_t nearest(int64_t sum, uint64_t over, uint64_t most)
     return (int64_t)(((uint64_t)sum + most * over + over / 2) / over) - (int64_t)most;
 }
 
-/* ---- step two */
+/* ---- solid tide: the lines */
 
 /* the lines from one index to before another, as a selection */
 #define BITS(from, to) ((ONE << (to)) - (ONE << (from)))
@@ -161,59 +161,15 @@ INLINE sums of_some(surfgimlet_phases b, uint32_t fives, uint32_t love, uint64_t
     return t;
 }
 
-uint32_t CALL(step_two)(uint32_t n, int64_t *c, size_t c_length, int64_t *s, size_t s_length, surfgimlet_phases b, uint32_t love, uint64_t selection,
-                        uint32_t *lines)
+/* those of a selection, in 2^-30 of 100 counts */
+INLINE sums of_lines(surfgimlet_phases b, uint32_t love, uint64_t selection)
 {
     uint64_t used = love ? BITS(0, LINES) : BITS(0, LINES) ^ BITS(DIURNAL, SEMIDIURNAL);
-    uint32_t fives = 5 * (b.s + b.h + b.p + b.np + b.ps), refusal;
-    sums t;
-    if (love > 1) return 100;
-    if ((refusal = field_refusal(n, c, c_length, s, s_length))) return refusal;
-    if (selection >> LINES) return 14;
-    *lines = (uint32_t)__builtin_popcountll(selection);
-    t = (selection & used) == used ? of_all(b, fives, love) : of_some(b, fives, love, selection & used);
-    c[3] += nearest_30(100 * t.c20);
-    c[4] += nearest_30(100 * t.c21);
-    s[4] += nearest_30(100 * t.s21);
-    c[5] += nearest_30(100 * t.c22);
-    s[5] += nearest_30(100 * t.s22);
-    return 0;
+    uint32_t fives = 5 * (b.s + b.h + b.p + b.np + b.ps);
+    return (selection & used) == used ? of_all(b, fives, love) : of_some(b, fives, love, selection & used);
 }
 
-/* ---- lines of an operator's own */
-
-/* Every band takes ip*cosine - op*sine, and ip*sine + op*cosine or its negative: two sums for each. */
-uint32_t CALL(own_lines)(uint32_t n, int64_t *restrict c, size_t c_length, int64_t *restrict s, size_t s_length, const surfgimlet_own_line *restrict lines,
-                         size_t lines_length, surfgimlet_phases b)
-{
-    uint32_t phases[64], sines[64], cosines[64], bad = 0, refusal;
-    int64_t along[3] = {0}, across[3] = {0};
-    if ((refusal = field_refusal(n, c, c_length, s, s_length))) return refusal;
-    if (lines_length > 64) return 12;
-    if (lines_length == 0) return 0;
-    for (size_t i = 0; i < lines_length; i++) {
-        const surfgimlet_own_line *l = lines + i;
-        uint32_t tau = (uint32_t)l->tau, m1 = (uint32_t)l->s, m2 = (uint32_t)l->h, m3 = (uint32_t)l->p, m4 = (uint32_t)l->np, m5 = (uint32_t)l->ps;
-        bad |= (tau > 2) | (m1 + 13 > 26) | (m2 + 13 > 26) | (m3 + 13 > 26) | (m4 + 13 > 26) | (m5 + 13 > 26)
-            | ((uint64_t)l->ip + 100000 > 200000) | ((uint64_t)l->op + 100000 > 200000);
-        phases[i] = tau * b.tau + m1 * b.s + m2 * b.h + m3 * b.p + m4 * b.np + m5 * b.ps;
-    }
-    if (bad) return 13;
-    waves(phases, lines_length, sines, cosines);
-    for (size_t i = 0; i < lines_length; i++) {
-        int64_t ip = lines[i].ip, op = lines[i].op, sine = wave(sines[i]), cosine = wave(cosines[i]);
-        along[lines[i].tau] += ip * cosine - op * sine;
-        across[lines[i].tau] += ip * sine + op * cosine;
-    }
-    c[3] += nearest_30(100 * along[0]);
-    c[4] += nearest_30(100 * across[1]);
-    s[4] += nearest_30(100 * along[1]);
-    c[5] += nearest_30(100 * along[2]);
-    s[5] += nearest_30(-100 * across[2]);
-    return 0;
-}
-
-/* ---- step one */
+/* ---- solid tide: the bodies */
 
 typedef struct { double u, v, w; } direction;
 typedef struct { double p[7], q[7]; } potential;
@@ -255,22 +211,20 @@ INLINE int64_t count(double x)
     return whole + (rest >= 0.5) - (rest < -0.5);
 }
 
-uint32_t CALL(step_one)(uint32_t n, int64_t *c, size_t c_length, int64_t *s, size_t s_length, surfgimlet_body moon, surfgimlet_body sun, uint32_t love)
+/* what both raise at the ten places, in counts not yet rounded: 3 to 6, or 0 */
+INLINE uint32_t of_bodies(const surfgimlet_body *moon, const surfgimlet_body *sun, uint32_t love, double dc[10], double ds[10])
 {
     static const double real[2][7] = {{0.29525, 0.29470, 0.29801, 0.093, 0.093, 0.093, 0.094}, {0.30190, 0.29830, 0.30102, 0.093, 0.093, 0.093, 0.094}};
     static const double imaginary[2][7] = {{0}, {0, -0.00144, -0.00130}};
     static const double plus[2][3] = {{-0.00087, -0.00079, -0.00057}, {-0.00089, -0.00080, -0.00057}};
-    double dc[10], ds[10];
     direction to_moon, to_sun;
     potential m, b;
     uint32_t refusal;
     int small = 1;
-    if (love > 1 || moon.kind > 1 || sun.kind > 1) return 100;
-    if ((refusal = field_refusal(n, c, c_length, s, s_length))) return refusal;
-    if ((refusal = see(&moon, &to_moon))) return refusal;
-    if ((refusal = see(&sun, &to_sun))) return refusal;
-    m = raised(moon.ratio, moon.r, to_moon);
-    b = raised(sun.ratio, sun.r, to_sun);
+    if ((refusal = see(moon, &to_moon))) return refusal;
+    if ((refusal = see(sun, &to_sun))) return refusal;
+    m = raised(moon->ratio, moon->r, to_moon);
+    b = raised(sun->ratio, sun->r, to_sun);
     for (int i = 0; i < 7; i++) {
         double over = i < 3 ? 5 : 7, p = (m.p[i] + b.p[i]) / over, q = (m.q[i] + b.q[i]) / over;
         dc[i] = (real[love][i] * p + imaginary[love][i] * q) * 1e15;
@@ -281,12 +235,65 @@ uint32_t CALL(step_one)(uint32_t n, int64_t *c, size_t c_length, int64_t *s, siz
         }
     }
     for (int i = 0; i < 10; i++) small &= (fabs(dc[i]) < 0x1p52) & (fabs(ds[i]) < 0x1p52);
-    if (!small) return 6;
-    for (int i = 0; i < 10; i++) c[3 + i] += count(dc[i]);
-    c[3] -= love ? -4200675 : -4108147;
-    s[4] += count(ds[1]); s[5] += count(ds[2]);
+    return small ? 0 : 6;
+}
+
+/* ---- solid tide */
+
+/* Both steps' corrections of an entry are one sum, added once. */
+uint32_t CALL(solid_tide)(uint32_t n, int64_t *restrict c, size_t c_length, int64_t *restrict s, size_t s_length, surfgimlet_body moon, surfgimlet_body sun,
+                          uint32_t love, surfgimlet_phases b, uint64_t selection, uint32_t *restrict lines)
+{
+    double dc[10], ds[10];
+    uint32_t refusal;
+    sums t;
+    if (love > 1 || moon.kind > 1 || sun.kind > 1) return 100;
+    if ((refusal = field_refusal(n, c, c_length, s, s_length))) return refusal;
+    if (selection >> LINES) return 14;
+    if ((refusal = of_bodies(&moon, &sun, love, dc, ds))) return refusal;
+    t = of_lines(b, love, selection);
+    *lines = (uint32_t)__builtin_popcountll(selection);
+    c[3] += count(dc[0]) + nearest_30(100 * t.c20) + (love ? 4200675 : 4108147);
+    c[4] += count(dc[1]) + nearest_30(100 * t.c21);
+    c[5] += count(dc[2]) + nearest_30(100 * t.c22);
+    for (int i = 3; i < 10; i++) c[3 + i] += count(dc[i]);
+    s[4] += count(ds[1]) + nearest_30(100 * t.s21);
+    s[5] += count(ds[2]) + nearest_30(100 * t.s22);
     s[7] += count(ds[4]); s[8] += count(ds[5]); s[9] += count(ds[6]);
     s[11] += count(ds[8]); s[12] += count(ds[9]);
+    return 0;
+}
+
+/* ---- lines of an operator's own */
+
+/* Every band takes ip*cosine - op*sine, and ip*sine + op*cosine or its negative: two sums for each. */
+uint32_t CALL(own_lines)(uint32_t n, int64_t *restrict c, size_t c_length, int64_t *restrict s, size_t s_length, const surfgimlet_own_line *restrict lines,
+                         size_t lines_length, surfgimlet_phases b)
+{
+    uint32_t phases[64], sines[64], cosines[64], bad = 0, refusal;
+    int64_t along[3] = {0}, across[3] = {0};
+    if ((refusal = field_refusal(n, c, c_length, s, s_length))) return refusal;
+    if (lines_length > 64) return 12;
+    if (lines_length == 0) return 0;
+    for (size_t i = 0; i < lines_length; i++) {
+        const surfgimlet_own_line *l = lines + i;
+        uint32_t tau = (uint32_t)l->tau, m1 = (uint32_t)l->s, m2 = (uint32_t)l->h, m3 = (uint32_t)l->p, m4 = (uint32_t)l->np, m5 = (uint32_t)l->ps;
+        bad |= (tau > 2) | (m1 + 13 > 26) | (m2 + 13 > 26) | (m3 + 13 > 26) | (m4 + 13 > 26) | (m5 + 13 > 26)
+            | ((uint64_t)l->ip + 100000 > 200000) | ((uint64_t)l->op + 100000 > 200000);
+        phases[i] = tau * b.tau + m1 * b.s + m2 * b.h + m3 * b.p + m4 * b.np + m5 * b.ps;
+    }
+    if (bad) return 13;
+    waves(phases, lines_length, sines, cosines);
+    for (size_t i = 0; i < lines_length; i++) {
+        int64_t ip = lines[i].ip, op = lines[i].op, sine = wave(sines[i]), cosine = wave(cosines[i]);
+        along[lines[i].tau] += ip * cosine - op * sine;
+        across[lines[i].tau] += ip * sine + op * cosine;
+    }
+    c[3] += nearest_30(100 * along[0]);
+    c[4] += nearest_30(100 * across[1]);
+    s[4] += nearest_30(100 * along[1]);
+    c[5] += nearest_30(100 * along[2]);
+    s[5] += nearest_30(-100 * across[2]);
     return 0;
 }
 

@@ -18,9 +18,40 @@ static double angle(const double m[6], const double phases[6])
     return m[0] * phases[0] + m[1] * phases[1] + m[2] * phases[2] + m[3] * phases[3] + m[4] * phases[4] + m[5] * phases[5];
 }
 
-void doubles_step_two(double *c, double *s, const double phases[6], uint32_t love, uint64_t selection)
+/* P and Q of one body, added to what is there */
+static void raise(surfgimlet_body body, double p[7], double q[7])
 {
-    double c20 = 0, c21 = 0, s21 = 0, c22 = 0, s22 = 0;
+    double over = body.kind == SURFGIMLET_RECTANGULAR ? body.r : 1, u = body.x / over, v = body.y / over, w = body.z / over;
+    double t = 6378136.3 / body.r, two = body.ratio * t * t * t, three = two * t;
+    double e2 = u * u - v * v, f2 = 2 * u * v, e3 = u * e2 - v * f2, f3 = u * f2 + v * e2;
+    double n[7] = {
+        sqrt(5.0) * (3 * w * w - 1) / 2 * two, sqrt(5 / 3.0) * 3 * w * two, sqrt(5 / 12.0) * 3 * two, sqrt(7.0) * (5 * w * w - 3) * w / 2 * three,
+        sqrt(7 / 6.0) * (15 * w * w - 3) / 2 * three, sqrt(7 / 60.0) * 15 * w * three, sqrt(7 / 360.0) * 15 * three};
+    p[0] += n[0]; p[3] += n[3];
+    p[1] += n[1] * u; q[1] += n[1] * v;
+    p[2] += n[2] * e2; q[2] += n[2] * f2;
+    p[4] += n[4] * u; q[4] += n[4] * v;
+    p[5] += n[5] * e2; q[5] += n[5] * f2;
+    p[6] += n[6] * e3; q[6] += n[6] * f3;
+}
+
+void doubles_solid_tide(double *c, double *s, surfgimlet_body moon, surfgimlet_body sun, uint32_t love, const double phases[6], uint64_t selection)
+{
+    static const double real[2][7] = {{0.29525, 0.29470, 0.29801, 0.093, 0.093, 0.093, 0.094}, {0.30190, 0.29830, 0.30102, 0.093, 0.093, 0.093, 0.094}};
+    static const double imaginary[2][7] = {{0}, {0, -0.00144, -0.00130}};
+    static const double plus[2][3] = {{-0.00087, -0.00079, -0.00057}, {-0.00089, -0.00080, -0.00057}};
+    double p[7] = {0}, q[7] = {0}, c20 = 0, c21 = 0, s21 = 0, c22 = 0, s22 = 0;
+    raise(moon, p, q);
+    raise(sun, p, q);
+    for (int i = 0; i < 7; i++) {
+        double over = i < 3 ? 5 : 7, x = p[i] / over, y = q[i] / over;
+        c[3 + i] += real[love][i] * x + imaginary[love][i] * y;
+        s[3 + i] += real[love][i] * y - imaginary[love][i] * x;
+        if (i < 3) {
+            c[10 + i] += plus[love][i] * x;
+            s[10 + i] += plus[love][i] * y;
+        }
+    }
     for (int i = 0; i < LINES; i++) {
         double x, sine, cosine, first = printed[i].first * 1e-13, second = printed[i].second * 1e-13;
         if (!(selection >> i & 1) || i >= DIURNAL && i < SEMIDIURNAL && !love) continue;
@@ -37,7 +68,8 @@ void doubles_step_two(double *c, double *s, const double phases[6], uint32_t lov
             s22 -= first * sine;
         }
     }
-    c[3] += c20; c[4] += c21; c[5] += c22;
+    c[3] += c20 - 4.4228e-8 * -0.31460 * real[love][0];
+    c[4] += c21; c[5] += c22;
     s[4] += s21; s[5] += s22;
 }
 
@@ -70,43 +102,6 @@ uint32_t doubles_own_lines(double *c, double *s, const surfgimlet_own_line *line
     c[3] += c20; c[4] += c21; c[5] += c22;
     s[4] += s21; s[5] += s22;
     return 0;
-}
-
-/* P and Q of one body, added to what is there */
-static void raise(surfgimlet_body body, double p[7], double q[7])
-{
-    double over = body.kind == SURFGIMLET_RECTANGULAR ? body.r : 1, u = body.x / over, v = body.y / over, w = body.z / over;
-    double t = 6378136.3 / body.r, two = body.ratio * t * t * t, three = two * t;
-    double e2 = u * u - v * v, f2 = 2 * u * v, e3 = u * e2 - v * f2, f3 = u * f2 + v * e2;
-    double n[7] = {
-        sqrt(5.0) * (3 * w * w - 1) / 2 * two, sqrt(5 / 3.0) * 3 * w * two, sqrt(5 / 12.0) * 3 * two, sqrt(7.0) * (5 * w * w - 3) * w / 2 * three,
-        sqrt(7 / 6.0) * (15 * w * w - 3) / 2 * three, sqrt(7 / 60.0) * 15 * w * three, sqrt(7 / 360.0) * 15 * three};
-    p[0] += n[0]; p[3] += n[3];
-    p[1] += n[1] * u; q[1] += n[1] * v;
-    p[2] += n[2] * e2; q[2] += n[2] * f2;
-    p[4] += n[4] * u; q[4] += n[4] * v;
-    p[5] += n[5] * e2; q[5] += n[5] * f2;
-    p[6] += n[6] * e3; q[6] += n[6] * f3;
-}
-
-void doubles_step_one(double *c, double *s, surfgimlet_body moon, surfgimlet_body sun, uint32_t love)
-{
-    static const double real[2][7] = {{0.29525, 0.29470, 0.29801, 0.093, 0.093, 0.093, 0.094}, {0.30190, 0.29830, 0.30102, 0.093, 0.093, 0.093, 0.094}};
-    static const double imaginary[2][7] = {{0}, {0, -0.00144, -0.00130}};
-    static const double plus[2][3] = {{-0.00087, -0.00079, -0.00057}, {-0.00089, -0.00080, -0.00057}};
-    double p[7] = {0}, q[7] = {0};
-    raise(moon, p, q);
-    raise(sun, p, q);
-    for (int i = 0; i < 7; i++) {
-        double over = i < 3 ? 5 : 7, x = p[i] / over, y = q[i] / over;
-        c[3 + i] += real[love][i] * x + imaginary[love][i] * y;
-        s[3 + i] += real[love][i] * y - imaginary[love][i] * x;
-        if (i < 3) {
-            c[10 + i] += plus[love][i] * x;
-            s[10 + i] += plus[love][i] * y;
-        }
-    }
-    c[3] -= 4.4228e-8 * -0.31460 * real[love][0];
 }
 
 void doubles_pole_tide(double *c, double *s, double xp, double yp, uint32_t love)

@@ -6,10 +6,10 @@ module surfgimlet
     private
     public :: c_int32_t, c_int64_t, c_size_t, c_double, c_int8_t
     public :: phases, body, own_line, phase, words
-    public :: version, step_one, step_two, all_lines, major_lines, own_lines, pole_tide, ocean_tide, move_c20
+    public :: version, solid_tide, all_lines, major_lines, own_lines, pole_tide, ocean_tide, move_c20
     public :: multipliers_of, number_of, find_line
 
-    integer(c_int32_t), parameter, public :: header_version = 2001000
+    integer(c_int32_t), parameter, public :: header_version = 3000000
     integer(c_int32_t), parameter, public :: elastic = 0, anelastic = 1
     integer(c_int32_t), parameter, public :: centre_of_figure = 0, centre_of_mass = 1
     integer(c_int32_t), parameter, public :: tide_free = 0, zero_tide = 1, mean_tide = 2
@@ -37,21 +37,13 @@ module surfgimlet
             import
         end function
 
-        integer(c_int32_t) function c_step_one(n, c, c_length, s, s_length, moon, sun, love_model) &
-            bind(c, name="surfgimlet_step_one")
+        integer(c_int32_t) function c_solid_tide(n, c, c_length, s, s_length, moon, sun, love_model, at, selection, lines) &
+            bind(c, name="surfgimlet_solid_tide")
             import
             integer(c_int32_t), value :: n, love_model
             integer(c_int64_t), intent(inout) :: c(*), s(*)
             integer(c_size_t), value :: c_length, s_length
             type(body), value :: moon, sun
-        end function
-
-        integer(c_int32_t) function c_step_two(n, c, c_length, s, s_length, at, love_model, selection, lines) &
-            bind(c, name="surfgimlet_step_two")
-            import
-            integer(c_int32_t), value :: n, love_model
-            integer(c_int64_t), intent(inout) :: c(*), s(*)
-            integer(c_size_t), value :: c_length, s_length
             type(phases), value :: at
             integer(c_int64_t), value :: selection
             integer(c_int32_t), intent(inout) :: lines
@@ -123,21 +115,15 @@ module surfgimlet
 
 contains
 
-    integer(c_int32_t) function step_one(n, c, s, moon, sun, love_model) result(answer)
+    ! bit i of the selection names line i, as ibset(0_c_int64_t, i); lines is how many are named
+    integer(c_int32_t) function solid_tide(n, c, s, moon, sun, love_model, at, selection, lines) result(answer)
         integer(c_int32_t), intent(in) :: n, love_model
         integer(c_int64_t), intent(inout), contiguous :: c(:), s(:)
         type(body), intent(in) :: moon, sun
-        answer = c_step_one(n, c, size(c, kind=c_size_t), s, size(s, kind=c_size_t), moon, sun, love_model)
-    end function
-
-    ! bit i of the selection names line i, as ibset(0_c_int64_t, i); lines is how many are named
-    integer(c_int32_t) function step_two(n, c, s, at, love_model, selection, lines) result(answer)
-        integer(c_int32_t), intent(in) :: n, love_model
-        integer(c_int64_t), intent(inout), contiguous :: c(:), s(:)
         type(phases), intent(in) :: at
         integer(c_int64_t), intent(in) :: selection
         integer(c_int32_t), intent(inout) :: lines
-        answer = c_step_two(n, c, size(c, kind=c_size_t), s, size(s, kind=c_size_t), at, love_model, selection, lines)
+        answer = c_solid_tide(n, c, size(c, kind=c_size_t), s, size(s, kind=c_size_t), moon, sun, love_model, at, selection, lines)
     end function
 
     integer(c_int32_t) function own_lines(n, c, s, lines, at) result(answer)

@@ -13,7 +13,7 @@ from array import array
 from collections import namedtuple
 from ctypes import POINTER, byref, c_double, c_int32, c_int64, c_size_t, c_uint8, c_uint32, c_uint64
 
-VERSION = 2001000
+VERSION = 3000000
 ELASTIC, ANELASTIC = 0, 1
 CENTRE_OF_FIGURE, CENTRE_OF_MASS = 0, 1
 TIDE_FREE, ZERO_TIDE, MEAN_TIDE = 0, 1, 2
@@ -79,8 +79,7 @@ def _library():
     lists = [c_uint32, POINTER(c_int64), c_size_t, POINTER(c_int64), c_size_t]
     for name, given in (
             ('version', []),
-            ('step_one', lists + [_Body, _Body, c_uint32]),
-            ('step_two', lists + [_Phases, c_uint32, c_uint64, POINTER(c_uint32)]),
+            ('solid_tide', lists + [_Body, _Body, c_uint32, _Phases, c_uint64, POINTER(c_uint32)]),
             ('own_lines', lists + [POINTER(_OwnLine), c_size_t, _Phases]),
             ('pole_tide', lists + [c_int64, c_int64, c_uint32]),
             ('ocean_tide', lists + [POINTER(c_uint8), c_size_t, _Phases, c_uint32]),
@@ -145,14 +144,11 @@ def version():
     return _unit.surfgimlet_version()
 
 
-def step_one(n, c, s, moon, sun, love_model):
-    _over_field(_unit.surfgimlet_step_one, n, c, s, _body(moon), _body(sun), _u32(love_model))
-
-
-def step_two(n, c, s, phases, love_model, selection):
+def solid_tide(n, c, s, moon, sun, love_model, phases, selection):
     """Bit i of the selection names line i; answers how many lines are named."""
     lines = c_uint32()
-    _over_field(_unit.surfgimlet_step_two, n, c, s, _phases(phases), _u32(love_model), _unsigned(selection, 64), byref(lines))
+    given = _body(moon), _body(sun), _u32(love_model), _phases(phases), _unsigned(selection, 64)
+    _over_field(_unit.surfgimlet_solid_tide, n, c, s, *given, byref(lines))
     return lines.value
 
 

@@ -108,17 +108,16 @@ int main(int argc, char **argv)
     }
     printf("version %" PRIu32 "\n", surfgimlet_version());
 
-    /* step one wants a zero-tide C20: a tide-free one, made with this Love model's k20, is moved once, before the first epoch */
+    /* the solid tide wants a zero-tide C20: a tide-free one, made with this Love model's k20, is moved once, before the first epoch */
     int64_t c20;
     accepted("move_c20", surfgimlet_move_c20(-484165000000000, SURFGIMLET_TIDE_FREE, SURFGIMLET_ZERO_TIDE, love, &c20));
     printf("C20 zero-tide %" PRId64 "\n", c20);
 
-    accepted("step_one", surfgimlet_step_one(DEGREE, c, ENTRIES, s, ENTRIES, moon, sun, love));
-    added("step one");
-    /* a laser operator's selection; an altimeter operator's may be surfgimlet_major_lines() */
+    /* what the Moon and the Sun raise, and the lines of a laser operator's selection; an altimeter operator's may be
+     * surfgimlet_major_lines() */
     uint32_t named;
-    accepted("step_two", surfgimlet_step_two(DEGREE, c, ENTRIES, s, ENTRIES, at, love, surfgimlet_all_lines(), &named));
-    added("step two");
+    accepted("solid_tide", surfgimlet_solid_tide(DEGREE, c, ENTRIES, s, ENTRIES, moon, sun, love, at, surfgimlet_all_lines(), &named));
+    added("solid tide");
     printf("lines named %" PRIu32 "\n", named);
     accepted("own_lines", surfgimlet_own_lines(DEGREE, c, ENTRIES, s, ENTRIES, lines, lines_length, at));
     added("own lines");

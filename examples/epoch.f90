@@ -1,5 +1,5 @@
-! Every call at one epoch, 2004-05-17 0h: `epoch SHEET <epoch.txt`. The input is six phases, then of the Moon and of the Sun the mass
-! ratio, x, y, z and r, then how many own lines there are, and of each the six multipliers, ip and op, then the pole's offsets
+! Every call at one epoch, 2004-05-17 0h: `epoch SHEET <epoch.txt`. The input is six phases, then of the Moon and of the Sun the
+! mass ratio, x, y, z and r, then how many own lines there are, and of each the six multipliers, ip and op, then the pole's offsets
 ! xp and yp, which are not that day's. The corrections are gathered in zeros of degree 12; a processor adds 1e-15 times each to its
 ! own coefficients.
 program epoch
@@ -32,15 +32,13 @@ program epoch
     if (version() /= header_version) call give_up('library and module are of two versions')
     print '(a, i0)', 'version ', version()
 
-    ! step one wants a zero-tide C20: a tide-free one, made with this Love model's k20, is moved once, before the first epoch
+    ! the solid tide wants a zero-tide C20: a tide-free one, made with this Love model's k20, is moved once, before the first epoch
     call accepted('move_c20', move_c20(-484165000000000_c_int64_t, tide_free, zero_tide, love, c20))
     print '(a, i0)', 'C20 zero-tide ', c20
 
-    call accepted('step_one', step_one(degree, c, s, moon, sun, love))
-    call added('step one')
-    ! a laser operator's selection; an altimeter operator's may be major_lines()
-    call accepted('step_two', step_two(degree, c, s, at, love, all_lines(), named))
-    call added('step two')
+    ! what the Moon and the Sun raise, and the lines of a laser operator's selection; an altimeter operator's may be major_lines()
+    call accepted('solid_tide', solid_tide(degree, c, s, moon, sun, love, at, all_lines(), named))
+    call added('solid tide')
     print '(a, i0)', 'lines named ', named
     call accepted('own_lines', own_lines(degree, c, s, lines, at))
     call added('own lines')

@@ -33,14 +33,13 @@ def main():
         raise SystemExit('library and module are of two versions')
     print('version', unit.version())
 
-    # step one wants a zero-tide C20: a tide-free one, made with this Love model's k20, is moved once, before the first epoch
+    # the solid tide wants a zero-tide C20: a tide-free one, made with this Love model's k20, is moved once, before the first epoch
     print('C20 zero-tide', unit.move_c20(-484165000000000, unit.TIDE_FREE, unit.ZERO_TIDE, love))
 
     c, s = [0] * len(PLACES), [0] * len(PLACES)
     for name, call in (
-            ('step one', lambda: unit.step_one(DEGREE, c, s, moon, sun, love)),
-            # a laser operator's selection; an altimeter operator's may be unit.major_lines()
-            ('step two', lambda: unit.step_two(DEGREE, c, s, phases, love, unit.all_lines())),
+            # what the Moon and the Sun raise, and the lines of a laser operator's selection; an altimeter operator's may be unit.major_lines()
+            ('solid tide', lambda: unit.solid_tide(DEGREE, c, s, moon, sun, love, phases, unit.all_lines())),
             ('own lines', lambda: unit.own_lines(DEGREE, c, s, lines, phases)),
             ('pole tide', lambda: unit.pole_tide(DEGREE, c, s, xp, yp, love)),
             ('ocean tide', lambda: unit.ocean_tide(DEGREE, c, s, sheet, phases, unit.CENTRE_OF_MASS))):

@@ -28,7 +28,7 @@
 #include <stdint.h>
 
 /* major * 1,000,000 + minor * 1,000 + patch; surfgimlet_version answers that of the library. */
-#define SURFGIMLET_VERSION 2001000
+#define SURFGIMLET_VERSION 3000000
 
 /* Where the compiler can, it warns of an answer that is not used. */
 #if defined(__cplusplus) && __cplusplus >= 201703L
@@ -123,23 +123,18 @@ typedef struct {
 /* The version of the library, as SURFGIMLET_VERSION. */
 uint32_t surfgimlet_version(void);
 
-/* Solid tide, step one: what the Moon and the Sun raise (eqs. 1 to 7). C20 must be zero-tide.
- * Given: a field in counts, n its degree, the lengths in entries; the Moon, the Sun; a Love model.
- * Done: the corrections of degree 2, of degree 3 and of degree 4 to order 2 are added, without the permanent part of C20.
- * Refused: 100; 1, 2; the Moon's 3, 4, 5; the Sun's 3, 4, 5; 6, tested before the permanent part is taken off. */
-SURFGIMLET_ANSWER uint32_t surfgimlet_step_one(uint32_t n, int64_t *c, size_t c_length, int64_t *s, size_t s_length,
-                                               surfgimlet_body moon, surfgimlet_body sun, uint32_t love_model);
-
-/* Solid tide, step two: the printed lines (Tables 6.2) that a selection names. It goes with step one, under the same Love
- * model. Bit i of a selection stands for line i, the index 0..48 that surfgimlet_find_line answers; 0 names no line.
- * Given: a field in counts, n its degree, the lengths in entries; the phases; a Love model; a selection.
- * Done: what the lines named, and no others, add to C20, C21, S21, C22 and S22 is added.
+/* Solid tide: what the Moon and the Sun raise (step one, eqs. 1 to 7), and what the printed lines that a selection names
+ * add to it (step two, Tables 6.2). C20 must be zero-tide. Bit i of a selection stands for line i, the index 0..48 that
+ * surfgimlet_find_line answers; 0 names no line.
+ * Given: a field in counts, n its degree, the lengths in entries; the Moon, the Sun; a Love model; the phases; a selection.
+ * Done: the corrections of both steps are added as one: those of degree 2, of degree 3 and of degree 4 to order 2, without
+ * the permanent part of C20, and what the lines named, and no others, add to C20, C21, S21, C22 and S22.
  * Answered: in *lines, how many lines are named; the long-period ones count in the elastic model too, which has no
- * amplitudes for them.
- * Refused: 100; 1, 2; 14. */
-SURFGIMLET_ANSWER uint32_t surfgimlet_step_two(uint32_t n, int64_t *c, size_t c_length, int64_t *s, size_t s_length,
-                                               surfgimlet_phases phases, uint32_t love_model, uint64_t selection,
-                                               uint32_t *lines);
+ * amplitudes for them. Where the call is refused nothing of either step is added, and *lines keeps its value.
+ * Refused: 100; 1, 2; 14; the Moon's 3, 4, 5; the Sun's 3, 4, 5; 6, tested before the permanent part is taken off. */
+SURFGIMLET_ANSWER uint32_t surfgimlet_solid_tide(uint32_t n, int64_t *c, size_t c_length, int64_t *s, size_t s_length,
+                                                 surfgimlet_body moon, surfgimlet_body sun, uint32_t love_model,
+                                                 surfgimlet_phases phases, uint64_t selection, uint32_t *lines);
 
 /* Two selections: all 49 lines; and those that have an anelastic amplitude, in phase or out of phase, of at least ten
  * tenths of 10^-12 without its sign, which are 21. */

@@ -1,4 +1,4 @@
-"""Runs the cases of the description (01, and T-01, T-02, T-04 and T-05 of 02) and its bounds on the second program; prints one line."""
+"""Runs the cases of the description (01, and T-01, T-02, T-04, T-05 and T-06 of 02) and its bounds on the second program; prints one line."""
 
 import struct
 from collections import Counter
@@ -122,7 +122,7 @@ def cases():
         expect('cases', t.steptwo_program(bytes(size)), b'refused\n')
     expect('cases', t.field_test(4, [0] * 15, [0] * 15), 0)
     for c, s in ((14, 15), (15, 14), (14, 14)):
-        expect('cases', t.step_two(4, [7] * c, [8] * s, NONE, t.ELASTIC, t.ALL_LINES), (1, None, [7] * c, [8] * s))
+        expect('cases', t.solid_tide(4, [7] * c, [8] * s, MOON, SUN, t.ELASTIC, NONE, t.ALL_LINES), (1, None, [7] * c, [8] * s))
 
 
 # --- Doodson numbers and lines ---
@@ -268,17 +268,13 @@ def table_6_2b():
 
 
 def step_two():
-    for i in range(400):
+    for i in range(250):
         phases, N = random_phases(), 4 if i % 5 else chance.between(4, 60)
         for love in LOVES:
             five = t.step_two_corrections(phases, love, t.ALL_LINES)
-            for value, exact in zip(five, t.step_two_exact(phases, love, t.ALL_LINES), strict=True):
-                within('step two', abs(value - exact), 1, strict=True)
             for value, real in zip(five, by_complex(printed(love), phases), strict=True):
                 within('step two by doubles', abs(value - real), 1, strict=True)
-            C, S = random_field(N)
-            number, lines, C2, S2 = t.step_two(N, C, S, phases, love, t.ALL_LINES)
-            expect('step two', (number, lines, differences(C, C2), differences(S, S2)), (0, 49, *changes_of(five, N)))
+            check_solid(telling.pair(chance), love, phases, t.ALL_LINES, five, t.step_two_exact(phases, love, t.ALL_LINES), N)
             assert love == t.ANELASTIC or five[0] == 0
     for phases, c20 in telling.QUARTERS.items():
         expect('step two', [t.step_two_corrections(phases, love, t.ALL_LINES)[0] for love in LOVES], [0, c20])
@@ -328,8 +324,8 @@ def line_parts(phases, love, sin, cos):
 
 
 def check_selections(chosen, phases, love, N=4):
-    """Selections on fields: how many lines each names by its binary digits, every entry after the call, and each correction against the parts of
-    the lines named, those of the recipe rounded once and the exact ones. Answers the fives."""
+    """Selections, each with some bodies on a field: each correction against the parts of the lines that its binary digits name, those of the recipe
+    rounded once and the exact ones. Answers the fives."""
     parts, fives = [line_parts(phases, love, *wave) for wave in WAVES], []
     for selection in chosen:
         digits = f'{selection:b}'[::-1]
@@ -337,11 +333,7 @@ def check_selections(chosen, phases, love, N=4):
         exact = tuple(Fraction(total, t.EXACT_DENOMINATOR) for total in exact)
         five = tuple(floor(Fraction(total, 1 << 30) + Fraction(1, 2)) for total in sums)
         expect('selections', (t.step_two_corrections(phases, love, selection), t.step_two_exact(phases, love, selection)), (five, exact))
-        for value, total in zip(five, exact, strict=True):
-            within('selections', abs(value - total), 1, strict=True)
-        C, S = random_field(N)
-        number, lines, C2, S2 = t.step_two(N, C, S, phases, love, selection)
-        expect('selections', (number, lines, differences(C, C2), differences(S, S2)), (0, digits.count('1'), *changes_of(five, N)))
+        check_solid(telling.pair(chance), love, phases, selection, five, exact, N)
         fives.append(five)
     return fives
 
@@ -418,19 +410,13 @@ def told_apart(alone):
 
 
 def selection_refusals(alone):
-    """14 for each bit above 48, 1 and 2 before it, and nothing changed; 48 is the last bit that passes."""
+    """14 for each bit above 48, and nothing changed; 48 is the last bit that passes."""
     def answer(number, selection):
-        N, phases, love = chance.one(4, 4, 12), random_phases(), chance.one(*LOVES)
+        N, love = chance.one(4, 4, 12), chance.one(*LOVES)
         C, S = random_field(N)
-        step = lambda *field: t.step_two(*field, phases, love, selection)
-        got, lines, C2, S2 = step(N, C, S)
+        got, lines, C2, S2 = t.solid_tide(N, C, S, *telling.pair(chance), love, random_phases(), selection)
         expect('selections', (got, lines), (number, None) if number else (0, f'{selection:b}'.count('1')))
         assert number == 0 or (C2, S2) == (C, S)
-        expect('selections', step(N, C[1:], S), (1, None, C[1:], S))
-        expect('selections', step(3, C, S), (1, None, C, S))
-        spoilt = given.spoilt(C, chance.below(len(C)), chance.one((1 << 60) + 1, -(1 << 63)))
-        expect('selections', step(N, spoilt, S), (2, None, spoilt, S))
-        expect('selections', step(N, S, spoilt), (2, None, S, spoilt))
 
     for selection in (0, 1, 1 << 48, 2**49 - 1, 2**49 - 2, t.MAJOR_LINES, *(given.accepted_selection(chance) for _ in range(20))):
         answer(0, selection)
@@ -842,18 +828,19 @@ def by_latitude(bodies, love):
 
 
 def step_one_values():
-    for _ in range(1500):
+    for _ in range(1000):
         moon, sun = given.moon(chance), given.sun(chance)
         for love in LOVES:
             C, S = random_field(4)
-            number, C2, S2 = t.step_one(4, C, S, moon, sun, love)
-            expect('step one', number, 0)
-            named = by_latitude((moon, sun), love)
+            phases, selection = random_phases(), chance.one(0, 0, given.few_lines(chance))
+            number, lines, C2, S2 = t.solid_tide(4, C, S, moon, sun, love, phases, selection)
+            expect('step one', (number, lines), (0, f'{selection:b}'.count('1')))
+            named, (second_c, second_s) = by_latitude((moon, sun), love), changes_of(t.step_two_corrections(phases, love, selection), 4)
             for n in range(5):
                 for m in range(n + 1):
                     i, (dC, dS) = t.index(n, m), named.get((n, m), (0, 0))
                     dC -= t.PERMANENT[love] if (n, m) == (2, 0) else 0
-                    error = max(abs(C2[i] - C[i] - dC), abs(S2[i] - S[i] - dS))
+                    error = max(abs(C2[i] - C[i] - second_c[i] - dC), abs(S2[i] - S[i] - second_s[i] - dS))
                     within('step one', error, 0.501)                            # the rounding to counts, and float noise
                     assert m > 0 or S2[i] == S[i]
                     assert (n, m) in named or (C2[i], S2[i]) == (C[i], S[i])
@@ -867,18 +854,18 @@ def step_one_values():
 def step_one_refusals():
     field = [5] * 15, [6] * 15
 
-    def answer(number, moon, sun, love=t.ELASTIC):
-        got, C, S = t.step_one(4, *field, moon, sun, love)
+    def answer(number, moon, sun):
+        got, lines, C, S = t.solid_tide(4, *field, moon, sun, chance.one(*LOVES), random_phases(), given.accepted_selection(chance))
         expect('step one', got, number)
-        assert got == 0 or (C, S) == field
+        assert got == 0 or (lines, C, S) == (None, *field)
 
     faults = given.faulty_bodies()
     for number, fault in faults:
         answer(number, fault, SUN)
         answer(number, MOON, fault)
         answer(number, fault, chance.one(*faults)[1])                           # a faulty Sun never comes before the Moon
-        expect('step one', t.step_one(3, *field, fault, fault, t.ELASTIC), (1, *field))
-        expect('step one', t.step_one(4, [1 << 62] * 15, field[1], fault, fault, t.ELASTIC), (2, [1 << 62] * 15, field[1]))
+        for before, call in ((1, (3, *field)), (2, (4, [1 << 62] * 15, field[1])), (14, (4, *field))):
+            expect('step one', t.solid_tide(*call, fault, fault, t.ELASTIC, NONE, 1 << 49), (before, None, *call[1:]))
     for number, first, second in ((3, (0, -1.0), (3, nan)), (3, (4, 1.0), (1, inf)), (4, (4, 1.0), (1, 7.0))):
         answer(number, given.spoilt_body(given.spoilt_body(SUN, *first), *second), SUN)     # 3 before 4 before 5 of one body
 
@@ -907,11 +894,120 @@ def bound_of_six():
             expect('step one', all(dS == 0 for (n, m), (_, dS) in t.step_one_products(*bodies, love).items() if m == 0), True)
 
 
+# --- One call for the solid tide ---
+
+def check_solid(bodies, love, phases, selection, five, exact, N=4):
+    """The call on one field: how many lines the selection names by its binary digits, and every entry. Less step one's correction each change is
+    the five's, and less than a count from the exact sum of the lines named."""
+    number, corrections = t.step_one_corrections(*bodies, love)
+    C, S = random_field(N)
+    got, lines, C2, S2 = t.solid_tide(N, C, S, *bodies, love, phases, selection)
+    expect('solid tide', (number, got, lines), (0, 0, f'{selection:b}'.count('1')))
+    of_c, of_s = differences(C, C2), differences(S, S2)
+    for n, m, dC, dS in corrections:
+        of_c[t.index(n, m)] -= dC
+        of_s[t.index(n, m)] -= dS
+    expect('solid tide', (of_c, of_s), changes_of(five, N))
+    for value, total in zip((of_c[3], of_c[4], of_s[4], of_c[5], of_s[5]), exact, strict=True):
+        within('solid tide', abs(value - total), 1, strict=True)
+
+
+def some_bodies(love):
+    """Two bodies that pass: any, two with a product at a half, two with one half a count inside a bound of 6, or two at ends of 4's ranges."""
+    edge = lambda: (chance.one(5e-324, 1e-9, 0.1), given.placed(t.DIRECTION, *chance.one(*given.AXES), chance.one(1e8, 1e12)))
+    drawn = chance.one(
+        lambda: telling.pair(chance),
+        lambda: (given.sun(chance), given.moon(chance)),
+        lambda: telling.at_a_half(chance, chance.one(*telling.COEFFICIENTS), love),
+        lambda: telling.at_the_bound(chance, chance.one(*telling.COEFFICIENTS[:5]), love, chance.one(1, -1) * (t.COUNT_BOUND - 0.5)),
+        lambda: (edge(), edge()))
+    return drawn()
+
+
+def some_call(love):
+    """Bodies, the model, phases and a selection, all accepted."""
+    return *some_bodies(love), love, random_phases(), given.lines_or_none(chance)
+
+
+def steps_in_turn(N, C, S, moon, sun, love, phases, selection):
+    """Step one on a field, then step two on what that leaves: (the number that a field test between them gives, C after both, S after both)."""
+    C, S = t.added(C, S, t.step_one_corrections(moon, sun, love)[1])
+    number = t.field_test(N, C, S)
+    return number, *t.added(C, S, t.by_place(t.step_two_corrections(phases, love, selection)))
+
+
+def solid_tide():
+    """"The correction is the sum of the two, added once": as by the steps in turn, but that what step one alone leaves is not tested."""
+    for i in range(500):
+        *bodies, love, phases, selection = some_call(LOVES[i % 2])
+        five, exact = t.step_two_corrections(phases, love, selection), t.step_two_exact(phases, love, selection)
+        check_solid(bodies, love, phases, selection, five, exact, 4 if i % 5 else chance.between(4, 60))
+    in_turn = Counter()
+    for i in range(400):
+        call, N = some_call(LOVES[i % 2]), 4 if i % 5 else chance.between(4, 12)
+        field = chance.one(given.varied_field(chance, N), (N, *random_field(N)))
+        number, C, S = steps_in_turn(*field, *call)
+        expect('solid tide', t.solid_tide(*field, *call), (0, f'{call[-1]:b}'.count('1'), C, S))
+        again = t.field_test(N, C, S)
+        expect('solid tide', t.solid_tide(N, C, S, *call)[0], again)
+        in_turn[number, again] += 1
+    expect('solid tide', min(in_turn[0, 0], in_turn[2, 2]) > 100, True)
+    day_call = *telling.DAY_BODIES, t.ANELASTIC, telling.DAY_PHASES, t.ALL_LINES
+    N, C, S = telling.day_field()
+    for number_in_turn, number in ((2, 0), (2, 0), (2, 2)):                     # out of the range by step one alone, then by both
+        expect('solid tide', steps_in_turn(N, C, S, *day_call)[0], number_in_turn)
+        got, _, C, S = t.solid_tide(N, C, S, *day_call)
+        expect('solid tide', got, number)
+    for i in range(200):
+        *one, _, _ = some_call(LOVES[i % 2])
+        field = 4, *random_field(4)
+        alone = t.solid_tide(*field, *one, random_phases(), 0)                  # no lines named: step one alone
+        expect('solid tide', alone, (0, 0, *t.added(*field[1:], t.step_one_corrections(*one)[1])))
+        _, _, C, S = t.solid_tide(*field, *one, random_phases(), given.accepted_selection(chance))
+        expect('solid tide', (C[6:], S[6:]), (alone[2][6:], alone[3][6:]))      # degrees 3 and 4 are step one's
+        expect('solid tide', [S[t.index(n, 0)] for n in range(5)], [field[2][t.index(n, 0)] for n in range(5)])
+    solid_extremes()
+    solid_orders()
+
+
+def solid_extremes():
+    """No sum leaves signed 64 bits: entry, step one and step two at their ends, of one sign, added up in any order."""
+    most_one = max(abs(t.nearest_float(sign * (t.COUNT_BOUND - 0.5))) for sign in (1, -1)) - min(t.PERMANENT.values())
+    most_two = max(100 * sum(abs(ip) + abs(op) for first, *_, ip, op in printed(love) if first == band) for love in LOVES for band in range(3))
+    expect('solid tide', (most_one < 1 << 53, most_two < 1 << 20, (1 << 60) + most_one + most_two < 1 << 61), (True, True, True))
+    quarters = [*product((0, 1 << 30, 1 << 31, 3 << 30), (0, 1 << 30, 1 << 31, 3 << 30), *[(0,)] * 4)]
+    for (which, coefficient), love, sign in product(enumerate(telling.COEFFICIENTS[:5]), LOVES, (1, -1)):
+        phases = max(quarters, key=lambda six: sign * t.step_two_corrections(six, love, t.ALL_LINES)[which])
+        bodies = telling.at_the_bound(chance, coefficient, love, sign * (t.COUNT_BOUND - 0.5))
+        number, _, *lists = t.solid_tide(4, [sign << 60] * 15, [sign << 60] * 15, *bodies, love, phases, t.ALL_LINES)
+        n, m, letter = coefficient
+        permanent = t.PERMANENT[love] if m == 0 else 0
+        entry = (sign << 60) + t.nearest(Fraction(sign * (2**53 - 1), 2)) - permanent + t.step_two_corrections(phases, love, t.ALL_LINES)[which]
+        expect('solid tide', (number, lists['CS'.index(letter)][t.index(n, m)]), (0, entry))
+        expect('solid tide', all(abs(one) < 1 << 61 for entries in lists for one in entries), True)
+
+
+def solid_orders():
+    """Every set of faults: the number that is first in the order is answered, and nothing changed."""
+    expect('orders', given.SOLID_ORDER, (1, 2, 14, 3, 4, 5, 3, 4, 5, 6))
+    first_of = lambda faults, places: next((given.SOLID_ORDER[i] for i in places if i in faults), 0)
+    for some, love in product(range(1 << 10), LOVES):
+        faults = [i for i in range(10) if some >> i & 1]
+        (N, C, S), moon, sun, selection = given.solid_with(chance, faults)
+        each = t.field_test(N, C, S), t.selection_test(selection), t.body_test(moon), t.body_test(sun)
+        expect('orders', each, tuple(first_of(faults, places) for places in (range(2), range(2, 3), range(3, 6), range(6, 9))))
+        got, lines, C2, S2 = t.solid_tide(N, C, S, moon, sun, love, random_phases(), selection)
+        expect('orders', got, first_of(faults, range(10)))
+        assert (lines, C2, S2) == (None, C, S) if faults else lines is not None
+
+
 def day():
     """The worked day: its counts were made with doubles, apart from this program."""
     number, corrections = t.step_one_corrections(*telling.DAY_BODIES, t.ANELASTIC)
     expect('day', (number, {(n, m): both for n, m, *both in corrections if n == 2}), (0, telling.DAY_STEP_ONE))
     expect('day', t.step_two_corrections(telling.DAY_PHASES, t.ANELASTIC, t.ALL_LINES), telling.DAY_STEP_TWO)
+    number, lines, C, S = t.solid_tide(4, [0] * 15, [0] * 15, *telling.DAY_BODIES, t.ANELASTIC, telling.DAY_PHASES, t.ALL_LINES)
+    expect('day', (number, lines, C[3:6], S[3:6]), (0, 49, [90640, -3410551, 6229483], [0, 1284180, -4327943]))
 
 
 def main():
@@ -928,6 +1024,7 @@ def main():
     ocean(hardest)
     step_one_values()
     step_one_refusals()
+    solid_tide()
     own_lines(hardest)
     pole_tide()
     day()

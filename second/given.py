@@ -1,4 +1,4 @@
-"""What is given to the calls: fields, phases, selections, bodies, records, pole offsets and sheets, drawn by a Chance."""
+"""What is given to the calls: fields, phases, selections, bodies, sets of faults, records, pole offsets and sheets, drawn by a Chance."""
 
 import struct
 from math import inf, nan, nextafter
@@ -66,6 +66,11 @@ def accepted_selection(chance):
                       chance.one(band, t.ALL_LINES ^ band), chance.one(t.ALL_LINES, t.MAJOR_LINES, t.ALL_LINES ^ t.MAJOR_LINES))
 
 
+def lines_or_none(chance):
+    """An accepted selection, one in four of no lines."""
+    return 0 if chance.one_in(4) else accepted_selection(chance)
+
+
 def selection(chance):
     """A selection, one in eight with bits above the printed lines: one, any of them or all."""
     every = sum(ABOVE)
@@ -112,6 +117,32 @@ def faulty_bodies():
     fives = [spoilt_body(one, at, bad) for one in GOOD for at in (1, 2, 3) for bad in (1e160, -1.7e308, 0.5 * one[1][4], 1e-5 * one[1][4])]
     fives += [(1.0, (kind, *[huge] * 3, 1e9)) for kind in (t.DIRECTION, t.RECTANGULAR) for huge in (0.0, 1e154, 1.7e308, -1.7e308)]
     return [(number, one) for number, bodies in ((3, threes), (4, fours), (5, fives)) for one in bodies]
+
+
+# --- Orders of the solid tide's refusals ---
+
+SOLID_ORDER = 1, 2, 14, 3, 4, 5, 3, 4, 5, 6            # the Moon's 3, 4, 5 before the Sun's
+
+
+def body_with(chance, numbers, heavy):
+    """A body with one fault for each of the numbers 3, 4 and 5 asked for; a heavy one without a fault is for 6."""
+    ratio, r = (1e6, 1e8) if heavy else (1e-3, 4e8)
+    one = ratio, placed(chance.one(t.DIRECTION, t.RECTANGULAR), 0.0, -0.6, 0.8, r)
+    faults = {3: (3, chance.one(nan, inf, -inf)), 4: chance.one((0, 0.0), (0, -1.0), (0, nextafter(1e6, inf)), (4, nextafter(1e8, 0))), 5: (1, 7e9)}
+    for number in numbers:
+        one = spoilt_body(one, *faults[number])
+    return one
+
+
+def solid_with(chance, faults):
+    """A field, the Moon, the Sun and a selection with these faults, places in SOLID_ORDER in ascending order: the first one's number is due."""
+    N, C, S = varied_field(chance, 4)
+    if 1 in faults:
+        C, S = chance.one((spoilt(C, 14, EDGE + 1), S), (C, spoilt(S, 14, -EDGE - 1)))
+    if 0 in faults:
+        N, C, S = chance.one((3, C, S), (61, C, S), (N, C[1:], S), (N, C, [0, *S]))
+    moon, sun = (body_with(chance, [SOLID_ORDER[i] for i in faults if i in own], 9 in faults) for own in (range(3, 6), range(6, 9)))
+    return (N, C, S), moon, sun, accepted_selection(chance) | (chance.one(*ABOVE) if 2 in faults else 0)
 
 
 # --- Records of our own lines ---

@@ -64,12 +64,12 @@ def moved_to(goal, coefficient, moon, sun, love):
 
 
 def at_a_half(chance, coefficient, love, which=None):
-    """A Moon and a Sun whose product is a whole number and a half, or in one case out of two the float next below that."""
+    """A Moon and a Sun that pass and whose product is a whole number and a half, or in one case out of two the float next below that."""
     while True:
         moon, sun = pair(chance, which)
         half = floor(product_of(coefficient, moon, sun, love)) + 0.5
         found = moved_to(chance.one(half, nextafter(half, -inf)), coefficient, moon, sun, love)
-        if found:
+        if found and not any(map(t.body_test, found)):
             return found
 
 
@@ -175,6 +175,14 @@ DAY_BODIES = (
 DAY_PHASES = 327043742, 329517021, 656638906, 3117674196, 3812369497, 3376471194
 DAY_STEP_ONE = {(2, 0): [90693, 0], (2, 1): [-3837629, 950496], (2, 2): [6230270, -4328639]}
 DAY_STEP_TWO = -53, 427078, 333684, -787, 696
+
+
+def day_field():
+    """A field that the day's step one alone would take out of the range of 2, at C21 below and at C22 above, and step two takes back into it."""
+    C = [0] * 15
+    C[4] = -t.FIELD_BOUND - DAY_STEP_ONE[2, 1][0] - 1000
+    C[5] = t.FIELD_BOUND - DAY_STEP_ONE[2, 2][0] + 500
+    return 4, C, [0] * 15
 
 
 # --- Tide lines of our own ---

@@ -1,4 +1,4 @@
-"""Tide corrections to a gravity field: a second program, written from the description (01, and T-01, T-02, T-04 and T-05 of 02) alone.
+"""Tide corrections to a gravity field: a second program, written from the description (01, and T-01, T-02, T-04, T-05 and T-06 of 02) alone.
 
 Coefficients are whole counts of 10^-15. Every call that can refuse answers the refusal number first, 0 where it accepts.
 Whole numbers and Fractions throughout; floats (IEEE binary64) only in step one.
@@ -61,10 +61,10 @@ def added(C, S, corrections):
     return C, S
 
 
-def added_five(C, S, five):
-    """New lists with the corrections to C20, C21, S21, C22, S22 added."""
+def by_place(five):
+    """The corrections to C20, C21, S21, C22, S22, each (n, m, dC, dS)."""
     c20, c21, s21, c22, s22 = five
-    return added(C, S, [(2, 0, c20, 0), (2, 1, c21, s21), (2, 2, c22, s22)])
+    return [(2, 0, c20, 0), (2, 1, c21, s21), (2, 2, c22, s22)]
 
 
 # --- Doodson numbers and the printed lines ---
@@ -256,14 +256,6 @@ def step_two_exact(phases, love, selection):
     return tuple(Fraction(total, EXACT_DENOMINATOR) for total in sums)
 
 
-def step_two(N, C, S, phases, love, selection):
-    """'Step two' on a field: (number, "how many lines the selection names" or None, C after, S after); refusals 1, 2, 14."""
-    refusal = field_test(N, C, S) or selection_test(selection)
-    if refusal:
-        return refusal, None, list(C), list(S)
-    return 0, len(named_lines(selection)), *added_five(C, S, step_two_corrections(phases, love, selection))
-
-
 def steptwo_program(data):
     """'Cases': the whole output of the program steptwo for the bytes of its input; it "keeps using all lines"."""
     if len(data) != 24:
@@ -313,7 +305,7 @@ def own_lines(N, C, S, records, phases):
     refusal = field_test(N, C, S) or records_test(records)
     if refusal:
         return refusal, list(C), list(S)
-    return 0, *added_five(C, S, own_line_corrections(records, phases))
+    return 0, *added(C, S, by_place(own_line_corrections(records, phases)))
 
 
 # --- Solid pole tide (02, T-05) ---
@@ -480,7 +472,7 @@ def move_c20(c20, have, want, love):
     return 0, c20 - above_tide_free(have, love) + above_tide_free(want, love)
 
 
-# --- Step one: floats from here on, one rounding per operation ---
+# --- Step one: floats, one rounding per operation ---
 
 RADIUS = 6378136.3
 TINY = ldexp(1.0, -40)
@@ -607,11 +599,29 @@ def step_one_corrections(moon, sun, love):
     return 0, corrections
 
 
-def step_one(N, C, S, moon, sun, love):
-    """'Step one' on a field: (number, C after, S after); refusals 1, 2, the Moon's 3, 4, 5, the Sun's 3, 4, 5, then 6."""
-    refusal = field_test(N, C, S)
-    if not refusal:
-        refusal, corrections = step_one_corrections(moon, sun, love)
+# --- One call for the solid tide (02, T-06) ---
+
+def solid_corrections(moon, sun, love, phases, selection):
+    """'One call for the solid tide': (0, [(n, m, dC, dS)]), at each place "the sum of the two" steps, or (3, 4, 5 or 6, None)."""
+    refusal, corrections = step_one_corrections(moon, sun, love)
     if refusal:
-        return refusal, list(C), list(S)
-    return 0, *added(C, S, corrections)
+        return refusal, None
+    second = {(n, m): two for n, m, *two in by_place(step_two_corrections(phases, love, selection))}
+    sums = []
+    for n, m, dC, dS in corrections:
+        more_c, more_s = second.get((n, m), (0, 0))
+        sums.append((n, m, dC + more_c, dS + more_s))
+    return 0, sums
+
+
+def solid_tide(N, C, S, moon, sun, love, phases, selection):
+    """'One call for the solid tide' on a field: (number, "how many lines the selection names" or None, C after, S after).
+
+    "Refusals: 1, 2, 14, then the Moon's 3, 4, 5, the Sun's, and 6"; "where a call is refused nothing of either step is added".
+    """
+    refusal = field_test(N, C, S) or selection_test(selection)
+    if not refusal:
+        refusal, corrections = solid_corrections(moon, sun, love, phases, selection)
+    if refusal:
+        return refusal, None, list(C), list(S)
+    return 0, len(named_lines(selection)), *added(C, S, corrections)

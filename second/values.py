@@ -13,8 +13,8 @@ These are some hundreds of cases that show each call at its edges. tests/boundar
 import struct
 import sys
 from collections import Counter
-from itertools import product
-from math import inf, ldexp, nextafter
+from itertools import combinations, product
+from math import ldexp, nextafter
 from pathlib import Path
 from runpy import run_path
 
@@ -100,24 +100,29 @@ def body_bytes(body):
     return struct.pack('<dB4d', ratio, KINDS.index(kind), *floats)
 
 
-def step_one(moon, sun, love):
-    data = bytes((LOVES.index(love),)) + body_bytes(moon) + body_bytes(sun)
-    return 4, 'step_one', data, lambda N, C, S: t.step_one(N, C, S, moon, sun, love)
+def solid_tide(moon, sun, love, phases, selection):
+    data = bytes((LOVES.index(love),)) + body_bytes(moon) + body_bytes(sun) + struct.pack('<6IQ', *phases, selection)
+    return 4, 'solid_tide', data, lambda N, C, S: t.solid_tide(N, C, S, moon, sun, love, phases, selection)
 
 
-def step_two(phases, love, selection=t.ALL_LINES):
-    data = bytes((LOVES.index(love),)) + struct.pack('<6IQ', *phases, selection)
-    return 5, 'step_two', data, lambda N, C, S: t.step_two(N, C, S, phases, love, selection)
+def by_bodies(moon, sun, love):
+    """The solid tide of these bodies, with any phases and lines."""
+    return solid_tide(moon, sun, love, given.phases(chance), given.lines_or_none(chance))
+
+
+def by_lines(phases, love, selection=t.ALL_LINES):
+    """The solid tide of these lines, with any bodies that pass."""
+    return solid_tide(*telling.pair(chance), love, phases, selection)
 
 
 def ocean_tide(sheet, phases, frame):
     data = bytes((FRAMES.index(frame),)) + struct.pack('<6I', *phases) + struct.pack('<I', len(sheet)) + sheet
-    return 6, 'ocean_tide', data, lambda N, C, S: t.ocean(N, C, S, sheet, phases, frame)
+    return 5, 'ocean_tide', data, lambda N, C, S: t.ocean(N, C, S, sheet, phases, frame)
 
 
 def pole_tide(xp, yp, love):
     data = bytes((LOVES.index(love),)) + struct.pack('<2q', xp, yp)
-    return 7, 'pole_tide', data, lambda N, C, S: t.pole_tide(N, C, S, xp, yp, love)
+    return 6, 'pole_tide', data, lambda N, C, S: t.pole_tide(N, C, S, xp, yp, love)
 
 
 ZEROS = 4, [0] * 15, [0] * 15
@@ -151,22 +156,22 @@ def bodies():
     """Refusals 3, 4 and 5 of either body and their order, the last floats that pass, and refusal 6."""
     faults = [body for _, body in given.faulty_bodies()[::3]]
     for i, bad in enumerate(faults):
-        over_field(*ZEROS, step_one(bad, chance.one(*GOOD, faults[-1 - i]), LOVES[i % 2]))
-        over_field(*ZEROS, step_one(GOOD[0], bad, LOVES[i // 2 % 2]))
-    over_field(3, *ZEROS[1:], step_one(bad, bad, t.ELASTIC))
+        over_field(*ZEROS, by_bodies(bad, chance.one(*GOOD, faults[-1 - i]), LOVES[i % 2]))
+        over_field(*ZEROS, by_bodies(GOOD[0], bad, LOVES[i // 2 % 2]))
     far = 1e-3, (t.DIRECTION, 0.0, -0.6, 0.8, 1e12)
     for at, value in ((4, 1e8), (4, 1e12), (0, 5e-324), (0, 1e6)):
-        over_field(*ZEROS, step_one(spoilt_body(far, at, value), GOOD[0], t.ANELASTIC))
+        over_field(*ZEROS, by_bodies(spoilt_body(far, at, value), GOOD[0], t.ANELASTIC))
     half = ldexp(1.0, -41)
     for at, edge in product((1, 2, 3), (1.0 + half, 1.0 - half, -1.0 - half)):
         for value in (edge, nextafter(edge, 2 * edge if abs(edge) > 1 else 0.0)):
-            over_field(*ZEROS, step_one(spoilt_body((1.0, (t.DIRECTION, 0.0, 0.0, 0.0, 1e9)), at, value), GOOD[1], t.ELASTIC))
+            over_field(*ZEROS, by_bodies(spoilt_body((1.0, (t.DIRECTION, 0.0, 0.0, 0.0, 1e9)), at, value), GOOD[1], t.ELASTIC))
     for i in range(6):                                                          # the last ratio whose corrections stay below 2^52, and the next
         axis, love = chance.direction(), LOVES[i % 2]
         heavy = lambda ratio: (ratio, placed(KINDS[i // 2 % 2], *axis, 1e8))
         for ratio in last_passing(lambda ratio: t.step_one_corrections(heavy(ratio), GOOD[0], love)[0] == 0, 1.0, 1e6):
-            over_field(*ZEROS, step_one(heavy(ratio), GOOD[0], love))
-        over_field(*ZEROS, step_one(heavy(1e6), spoilt_body(GOOD[0], 1, 7.0), love))
+            over_field(*ZEROS, by_bodies(heavy(ratio), GOOD[0], love))
+            over_field(*ZEROS, solid_tide(heavy(ratio), GOOD[0], love, given.phases(chance), t.ALL_LINES))
+        over_field(*ZEROS, by_bodies(heavy(1e6), spoilt_body(GOOD[0], 1, 7.0), love))
 
 
 def last_passing(passes, low, high):
@@ -178,25 +183,40 @@ def last_passing(passes, low, high):
     return low, high
 
 
+def orders():
+    """Any two faults of the solid tide, and all from any one on: the number that is first in its order."""
+    for faults in (*combinations(range(10), 2), *combinations(range(10), 2), *(range(first, 10) for first in range(10))):
+        field, moon, sun, selection = given.solid_with(chance, faults)
+        over_field(*field, solid_tide(moon, sun, chance.one(*LOVES), given.phases(chance), selection))
+
+
 def solid():
-    bodies_call = lambda love: step_one(given.moon(chance), given.sun(chance), love)
-    phases_call = lambda love: step_two(given.phases(chance), love)
-    field_edges(bodies_call(t.ELASTIC))
-    field_edges(phases_call(t.ANELASTIC))
+    any_call = lambda love: by_bodies(given.moon(chance), given.sun(chance), love)
+    field_edges(by_lines(given.phases(chance), t.ANELASTIC))
     bodies()
-    for i in range(40):
-        over_field(*chance.one(ZEROS, given.varied_field(chance, 4)), bodies_call(LOVES[i % 2]))
-        over_field(*chance.one(ZEROS, given.varied_field(chance, 4)), phases_call(LOVES[i % 2]))
+    orders()
+    for i in range(60):
+        over_field(*chance.one(ZEROS, given.varied_field(chance, 4)), any_call(LOVES[i % 2]))
     for i, coefficient in enumerate(telling.COEFFICIENTS):
-        over_field(*ZEROS, step_one(*telling.at_a_half(chance, coefficient, LOVES[i % 2]), LOVES[i % 2]))
+        over_field(*ZEROS, by_bodies(*telling.at_a_half(chance, coefficient, LOVES[i % 2]), LOVES[i % 2]))
     for love in LOVES:
-        for phases in (NONE, (1 << 30, 0, 0, 0, 0, 0), (U32,) * 6, *telling.tie_phases(), *telling.QUARTERS, telling.DAY_PHASES):
-            over_field(*ZEROS, step_two(phases, love))
-    over_field(*ZEROS, step_one(*telling.DAY_BODIES, t.ANELASTIC))
+        for phases in (NONE, (1 << 30, 0, 0, 0, 0, 0), (U32,) * 6, *telling.tie_phases(), *telling.QUARTERS):
+            over_field(*ZEROS, by_lines(phases, love))
+        over_field(*ZEROS, solid_tide(*telling.DAY_BODIES, love, telling.DAY_PHASES, t.ALL_LINES))
     for place, k in product(range(6), range(8)):                                # each argument beside an edge of the eighths
-        over_field(*ZEROS, step_two(tuple(spoilt(NONE, place, (k << 29) + chance.between(-1, 1) & U32)), LOVES[k % 2]))
-    for call in (bodies_call(t.ANELASTIC), phases_call(t.ANELASTIC)):
-        over_field(*given.varied_field(chance, 60), call)
+        over_field(*ZEROS, by_lines(tuple(spoilt(NONE, place, (k << 29) + chance.between(-1, 1) & U32)), LOVES[k % 2]))
+    over_field(*given.varied_field(chance, 60), any_call(t.ANELASTIC))
+    beyond_the_range()
+
+
+def beyond_the_range():
+    """Fields that step one alone would take out of the range, accepted; lent again, refused with 2 once the sum of both has left it."""
+    for edge in (EDGE, -EDGE):
+        call = by_lines(given.phases(chance), t.ELASTIC)
+        over_field(*over_field(4, [edge] * 15, [edge] * 15, call), call)
+    field, call = telling.day_field(), solid_tide(*telling.DAY_BODIES, t.ANELASTIC, telling.DAY_PHASES, t.ALL_LINES)
+    for _ in range(3):
+        field = over_field(*field, call)
 
 
 def sheet_refusals():
@@ -288,25 +308,25 @@ def own():
 def selections():
     """Each line alone, two at a border and all but those, each band, none, the profiles, small lines together; 14, and 1 and 2 before it."""
     varied = lambda: given.varied_field(chance, 4)
-    at_lines = lambda selection, love: over_field(*ZEROS, step_two(telling.LINE_PHASES, love, selection))
+    at_lines = lambda selection, love: over_field(*ZEROS, by_lines(telling.LINE_PHASES, love, selection))
     for i in given.LINES:
         at_lines(1 << i, t.ANELASTIC if 1 << i & given.BANDS[1] else LOVES[i % 2])
     for i in (26, 27, 37, 46):                                                  # counted, and adds nothing
-        over_field(*varied(), step_two(given.phases(chance), t.ELASTIC, 1 << i))
+        over_field(*varied(), by_lines(given.phases(chance), t.ELASTIC, 1 << i))
     for i, j in ((0, 48), (25, 26), (31, 32), (46, 47)):
         at_lines(1 << i | 1 << j, t.ANELASTIC)
         at_lines(t.ALL_LINES ^ (1 << i | 1 << j), chance.one(*LOVES))
     for selection, love in product((0, *given.BANDS, t.ALL_LINES, t.MAJOR_LINES), LOVES):
-        over_field(*varied(), step_two(given.phases(chance), love, selection))
+        over_field(*varied(), by_lines(given.phases(chance), love, selection))
     for selection, phases, _ in telling.faint_lines():
-        over_field(*ZEROS, step_two(phases, t.ANELASTIC, selection))
+        over_field(*ZEROS, by_lines(phases, t.ANELASTIC, selection))
     for i in range(10):
-        over_field(*varied(), step_two(given.phases(chance), LOVES[i % 2], given.accepted_selection(chance)))
-    call = step_two(telling.LINE_PHASES, t.ANELASTIC, t.ALL_LINES ^ t.MAJOR_LINES)
+        over_field(*varied(), by_lines(given.phases(chance), LOVES[i % 2], given.accepted_selection(chance)))
+    call = by_lines(telling.LINE_PHASES, t.ANELASTIC, t.ALL_LINES ^ t.MAJOR_LINES)
     over_field(*over_field(*ZEROS, call), call)
-    over = step_two(given.phases(chance), t.ANELASTIC, t.MAJOR_LINES | 1 << 49)
+    over = by_lines(given.phases(chance), t.ANELASTIC, t.MAJOR_LINES | 1 << 49)
     for selection in (*given.ABOVE, 1 << 49 | 1, 1 << 63 | t.ALL_LINES, (1 << 64) - 1, (1 << 64) - (1 << 49)):
-        over_field(*ZEROS, step_two(telling.LINE_PHASES, chance.one(*LOVES), selection))
+        over_field(*ZEROS, by_lines(telling.LINE_PHASES, chance.one(*LOVES), selection))
     over_field(*varied(), over)
     fields_first(over)
 

@@ -8,6 +8,11 @@ import surfgimlet as unit
 ZERO = unit.Phases(0, 0, 0, 0, 0, 0)
 LINE = unit.OwnLine(1, 1, 0, 0, 0, 0, 3, 5)
 MOON = unit.rectangular(0.0123, 3e8, -2e8, 1e8)
+SUN = unit.rectangular(332946, 1e11, 1.1e11, 3e10)
+# what the two raise, anelastic, as the second program has it; and C22 of the elastic model
+BODIES = ([0, 0, 0, -506485, 3768761, 2287483, -12903, -11534, 6746, -5034, 13877, -10092, -4304, 0, 0],
+          [0, 0, 0, 0, -1171829, -3316535, 0, 7669, -16181, -25599, 0, 3191, 6299, 0, 0])
+ELASTIC_C22 = 2250388
 faults = []
 
 
@@ -30,17 +35,26 @@ def field(value=0):
     return [value] * 15, [value] * 15
 
 
+def solid(c, s, moon=MOON, sun=SUN, love=unit.ANELASTIC, phases=ZERO, selection=1):
+    """The solid tide on a field of degree 4."""
+    return raised(unit.solid_tide, 4, c, s, moon, sun, love, phases, selection)
+
+
 def main():
     for kind in (list, lambda entries: array('q', entries)):
         c, s = map(kind, field())
-        expect('step two', raised(unit.step_two, 4, c, s, ZERO, unit.ANELASTIC, unit.all_lines()), 49)
-        expect('its entries', (c[3], c[4], s[4], c[5], s[5], sum(map(abs, c)) + sum(map(abs, s))), (10100, 0, 450100, -1500, 0, 461700))
-        expect('again', (raised(unit.step_two, 4, c, s, ZERO, unit.ANELASTIC, unit.all_lines()), c[3]), (49, 20200))
-        expect('no lines', (raised(unit.step_two, 4, c, s, ZERO, unit.ANELASTIC, 0), c[3]), (0, 20200))
-        expect('the semidiurnal lines', (raised(unit.step_two, 4, c, s, ZERO, unit.ELASTIC, 3 << 47), c[5]), (2, -4500))
-        expect('own lines', (raised(unit.own_lines, 4, c, s, [LINE, (1, 0, 0, 0, 0, 0, 0, -1)], ZERO), c[4], s[4]), (None, 400, 900500))
-        expect('none of them', (raised(unit.own_lines, 4, c, s, [], ZERO), c[4], s[4]), (None, 400, 900500))
-        expect('pole tide', (raised(unit.pole_tide, 4, c, s, 10 ** 6, -50, unit.ELASTIC), c[4], s[4]), (None, -1289600, 900436))
+        expect('no lines', solid(c, s, selection=0), 0)
+        once = list(c), list(s)
+        expect('what the bodies raise', once, BODIES)
+        expect('all lines', solid(c, s, selection=unit.all_lines()), 49)
+        lines = [[now - 2 * one for now, one in zip(both, before)] for both, before in zip((c, s), once)]
+        expect('what they add', (lines[0][3:6], lines[1][4:6], sum(map(abs, sum(lines, [])))), ([10100, 0, -1500], [450100, 0], 461700))
+        c, s = map(kind, field())
+        expect('the semidiurnal lines', (solid(c, s, love=unit.ELASTIC, selection=3 << 47), c[5]), (2, ELASTIC_C22 - 1500))
+        c, s = map(kind, field())
+        expect('own lines', (raised(unit.own_lines, 4, c, s, [LINE, (1, 0, 0, 0, 0, 0, 0, -1)], ZERO), c[4], s[4]), (None, 400, 300))
+        expect('none of them', (raised(unit.own_lines, 4, c, s, [], ZERO), c[4], s[4]), (None, 400, 300))
+        expect('pole tide', (raised(unit.pole_tide, 4, c, s, 10 ** 6, -50, unit.ELASTIC), c[4], s[4]), (None, -1289600, 236))
         kept = list(c), list(s)
         expect('a pole beyond an arcsecond', raised(unit.pole_tide, 4, c, s, 0, -10 ** 6 - 1, unit.ANELASTIC), 15)
         expect('a pole at -2^63', raised(unit.pole_tide, 4, c, s, -2 ** 63, 0, unit.ANELASTIC), 15)
@@ -49,20 +63,25 @@ def main():
         expect('65 own lines', raised(unit.own_lines, 4, c, s, [LINE] * 65, ZERO), 12)
         expect('64 of them, the last at fault', raised(unit.own_lines, 4, c, s, [LINE] * 63 + [LINE._replace(tau=3)], ZERO), 13)
         expect('a sheet of nothing', raised(unit.ocean_tide, 4, c, s, b'', ZERO, unit.CENTRE_OF_MASS), 7)
-        expect('a Moon in kilometres', raised(unit.step_one, 4, c, s, unit.rectangular(0.0123, 3e5, -2e5, 1e5), MOON, unit.ANELASTIC), 4)
-        expect('a Love model 2', raised(unit.step_one, 4, c, s, MOON, MOON, 2), 100)
-        expect('a phase below 0', raised(unit.step_two, 4, c, s, ZERO._replace(np=-1), unit.ANELASTIC, 1), OverflowError)
-        expect('a phase of a turn', raised(unit.step_two, 4, c, s, ZERO._replace(ps=2 ** 32), unit.ANELASTIC, 1), OverflowError)
-        expect('bit 49', raised(unit.step_two, 4, c, s, ZERO, unit.ANELASTIC, 1 << 49), 14)
-        expect('a selection below 0', raised(unit.step_two, 4, c, s, ZERO, unit.ANELASTIC, -1), OverflowError)
-        expect('a selection of 2^64', raised(unit.step_two, 4, c, s, ZERO, unit.ANELASTIC, 2 ** 64), OverflowError)
-        expect('one list twice', raised(unit.step_two, 4, c, c, ZERO, unit.ANELASTIC, 1), ValueError)
+        expect('a Moon in kilometres', solid(c, s, moon=unit.rectangular(0.0123, 3e5, -2e5, 1e5)), 4)
+        expect('a Sun without a place', solid(c, s, sun=SUN._replace(x=float('nan'))), 3)
+        expect('the Moon before the Sun', solid(c, s, moon=MOON._replace(x=0.0), sun=SUN._replace(r=0.0)), 5)
+        expect('a heavy Moon', solid(c, s, moon=unit.rectangular(1e6, 6e7, 0.0, 8e7)), 6)
+        expect('a Love model 2', solid(c, s, love=2), 100)
+        expect('a Sun of kind 2', solid(c, s, sun=SUN._replace(kind=2)), 100)
+        expect('a phase below 0', solid(c, s, phases=ZERO._replace(np=-1)), OverflowError)
+        expect('a phase of a turn', solid(c, s, phases=ZERO._replace(ps=2 ** 32)), OverflowError)
+        expect('bit 49', solid(c, s, selection=1 << 49), 14)
+        expect('bit 49 before the Moon', solid(c, s, moon=MOON._replace(x=0.0), selection=1 << 49), 14)
+        expect('a selection below 0', solid(c, s, selection=-1), OverflowError)
+        expect('a selection of 2^64', solid(c, s, selection=2 ** 64), OverflowError)
+        expect('one list twice', solid(c, c), ValueError)
         expect('the lists', (list(c), list(s)), kept)
-    expect('no lists', raised(unit.step_two, 4, [], [], ZERO, unit.ANELASTIC, 1), 1)
-    expect('2^60 + 1', raised(unit.step_two, 4, *field(2 ** 60 + 1), ZERO, unit.ANELASTIC, 1), 2)
-    expect('2^64', raised(unit.step_two, 4, *field(2 ** 64), ZERO, unit.ANELASTIC, 1), OverflowError)
-    expect('a fraction', raised(unit.step_two, 4, *field(0.5), ZERO, unit.ANELASTIC, 1), TypeError)
-    expect('the lines of the profiles', (raised(unit.step_two, 4, *field(), ZERO, unit.ELASTIC, unit.major_lines()), unit.all_lines()), (21, 2 ** 49 - 1))
+    expect('no lists', solid([], []), 1)
+    expect('2^60 + 1', solid(*field(2 ** 60 + 1)), 2)
+    expect('2^64', solid(*field(2 ** 64)), OverflowError)
+    expect('a fraction', solid(*field(0.5)), TypeError)
+    expect('the lines of the profiles', (solid(*field(), love=unit.ELASTIC, selection=unit.major_lines()), unit.all_lines()), (21, 2 ** 49 - 1))
     expect('a move of 2^63', raised(unit.move_c20, 2 ** 63, unit.ZERO_TIDE, unit.MEAN_TIDE, unit.ELASTIC), OverflowError)
     expect('2^32 + 165555', raised(unit.multipliers_of, 2 ** 32 + 165555), OverflowError)
     expect('a million', raised(unit.find_line, 10 ** 6), 10)

@@ -31,18 +31,32 @@ static size_t printed(surfgimlet_own_line *lines)
     return count;
 }
 
+/* two bodies over the equator, where step one gives C21 and S21 nothing; and a small Moon to the north, which gives S21 less than K1 takes */
+static const surfgimlet_body moon = {SURFGIMLET_DIRECTION, 0.0123, 1, 0, 0, 3.8e8}, sun = {SURFGIMLET_DIRECTION, 332946, 0, 1, 0, 1.5e11};
+static const surfgimlet_body north = {SURFGIMLET_DIRECTION, 0.001, 0, 0.96, 0.28, 3.8e8};
+
+/* the solid tide on a field of degree 4 */
+static uint32_t solid(int64_t *c, int64_t *s, surfgimlet_body of_moon, surfgimlet_body of_sun, uint32_t love, surfgimlet_phases at,
+                      uint64_t selection, uint32_t *lines)
+{
+    return surfgimlet_solid_tide(4, c, 15, s, 15, of_moon, of_sun, love, at, selection, lines);
+}
+
 int main(void)
 {
     const int64_t end = (int64_t)1 << 60;
-    const surfgimlet_phases at = {0, 0, 0, 0, 0, 0}, day = {327043742u, 329517021u, 656638906u, 3117674196u, 3812369497u, 3376471194u};
+    const uint64_t k1 = (uint64_t)1 << 15, long_period = (((uint64_t)1 << 21) - 1) << 26;
+    const surfgimlet_phases at = {0, 0, 0, 0, 0, 0}, half = {2147483648u, 0, 0, 0, 0, 0};
+    const surfgimlet_phases day = {327043742u, 329517021u, 656638906u, 3117674196u, 3812369497u, 3376471194u};
     int64_t c[15] = {0}, s[15] = {0}, own_c[15] = {0}, own_s[15] = {0}, moved = 0;
+    surfgimlet_body bad_moon = moon, bad_sun = sun, heavy = moon;
     surfgimlet_own_line lines[64] = {{1, 0, 0, 0, 0, 0, 3, 5}};
     uint32_t named = 99;
 
     expect("the version", surfgimlet_version(), SURFGIMLET_VERSION);
 
     /* with length 0 a null pointer is welcome */
-    expect("no lists", surfgimlet_step_two(4, NULL, 0, NULL, 0, at, SURFGIMLET_ANELASTIC, 0, &named), SURFGIMLET_FIELD_SHAPE);
+    expect("no lists", surfgimlet_solid_tide(4, NULL, 0, NULL, 0, moon, sun, SURFGIMLET_ANELASTIC, at, 0, &named), SURFGIMLET_FIELD_SHAPE);
     expect("no sheet", surfgimlet_ocean_tide(4, c, 15, s, 15, NULL, 0, at, SURFGIMLET_CENTRE_OF_MASS), SURFGIMLET_SHEET_LENGTH);
 
     expect("no lines", surfgimlet_own_lines(4, c, 15, s, 15, NULL, 0, at), SURFGIMLET_ACCEPTED);
@@ -58,23 +72,46 @@ int main(void)
     expect("the least amplitude", surfgimlet_own_lines(4, own_c, 15, own_s, 15, lines, 2, at), SURFGIMLET_RECORD_VALUE);
     own_c[4] = own_s[4] = 0;
 
-    /* the printed lines as lines of one's own are step two */
+    /* the printed lines as lines of one's own, beside the solid tide of none, are the solid tide of all lines */
     expect("the printed lines", (uint32_t)printed(lines), 49u);
     expect("as one's own", surfgimlet_own_lines(4, own_c, 15, own_s, 15, lines, 49, day), SURFGIMLET_ACCEPTED);
-    expect("step two", surfgimlet_step_two(4, c, 15, s, 15, day, SURFGIMLET_ANELASTIC, surfgimlet_all_lines(), &named), SURFGIMLET_ACCEPTED);
+    expect("no lines named", solid(own_c, own_s, north, sun, SURFGIMLET_ANELASTIC, day, 0, &named), SURFGIMLET_ACCEPTED);
+    expect("and counted", named, 0u);
+    expect("all lines named", solid(c, s, north, sun, SURFGIMLET_ANELASTIC, day, surfgimlet_all_lines(), &named), SURFGIMLET_ACCEPTED);
+    expect("and counted", named, 49u);
     for (int i = 0; i < 15; i++) {
         expect("the same entry", c[i] == own_c[i] && s[i] == own_s[i] ? 0u : 1u, 0u);
-        c[i] = s[i] = 0;
+        expect("an entry that no rule names", (i < 3 || i > 12 ? c[i] == 0 && s[i] == 0 : (i != 3 && i != 6 && i != 10) || s[i] == 0) ? 0u : 1u, 0u);
+        c[i] = s[i] = own_c[i] = own_s[i] = 0;
     }
 
-    /* a selection: none of the lines, those that the elastic model has no amplitudes for, and a bit that stands for none */
-    expect("the lines named", named, 49u);
-    expect("no lines named", surfgimlet_step_two(4, c, 15, s, 15, day, SURFGIMLET_ANELASTIC, 0, &named), SURFGIMLET_ACCEPTED);
-    expect("and counted", named, 0u);
-    expect("the long period", surfgimlet_step_two(4, c, 15, s, 15, day, SURFGIMLET_ELASTIC, (((uint64_t)1 << 21) - 1) << 26, &named), SURFGIMLET_ACCEPTED);
+    /* the lines that the elastic model has no amplitudes for */
+    expect("the long period", solid(c, s, moon, sun, SURFGIMLET_ELASTIC, day, long_period, &named), SURFGIMLET_ACCEPTED);
     expect("it counts", named, 21u);
-    expect("bit 49", surfgimlet_step_two(4, c, 15, s, 15, day, SURFGIMLET_ANELASTIC, (uint64_t)1 << 49, &named), SURFGIMLET_SELECTION_VALUE);
-    expect("the count kept", named, 21u);
+    expect("no lines", solid(own_c, own_s, moon, sun, SURFGIMLET_ELASTIC, day, 0, &named), SURFGIMLET_ACCEPTED);
+    for (int i = 0; i < 15; i++) {
+        expect("it adds nothing", c[i] == own_c[i] && s[i] == own_s[i] ? 0u : 1u, 0u);
+        c[i] = s[i] = own_c[i] = own_s[i] = 0;
+    }
+
+    /* the order of the refusals: a choice, the field, the selection, the Moon, the Sun, a correction; nothing of either step is added */
+    named = 77;
+    bad_moon.x = 7;
+    bad_sun.r = 1.5e14;
+    heavy.ratio = 1e6;
+    heavy.r = 1e8;
+    s[14] = end + 1;
+    expect("a Love model 2", solid(c, s, bad_moon, bad_sun, 2, day, (uint64_t)1 << 49, &named), SURFGIMLET_NO_SUCH_CHOICE);
+    bad_sun.kind = 2;
+    expect("a Sun of kind 2", solid(c, s, bad_moon, bad_sun, SURFGIMLET_ANELASTIC, day, (uint64_t)1 << 49, &named), SURFGIMLET_NO_SUCH_CHOICE);
+    bad_sun.kind = SURFGIMLET_DIRECTION;
+    expect("beyond the range", solid(c, s, bad_moon, bad_sun, SURFGIMLET_ANELASTIC, day, (uint64_t)1 << 49, &named), SURFGIMLET_FIELD_RANGE);
+    s[14] = 0;
+    expect("bit 49", solid(c, s, bad_moon, bad_sun, SURFGIMLET_ANELASTIC, day, (uint64_t)1 << 49, &named), SURFGIMLET_SELECTION_VALUE);
+    expect("a Moon not of length one", solid(c, s, bad_moon, bad_sun, SURFGIMLET_ANELASTIC, day, k1, &named), SURFGIMLET_NOT_UNIT);
+    expect("a Sun in millimetres", solid(c, s, heavy, bad_sun, SURFGIMLET_ANELASTIC, day, k1, &named), SURFGIMLET_BODY_RANGE);
+    expect("a heavy Moon", solid(c, s, heavy, sun, SURFGIMLET_ANELASTIC, day, k1, &named), SURFGIMLET_STEP_ONE_RANGE);
+    expect("the count kept", named, 77u);
     for (int i = 0; i < 15; i++) expect("an entry kept", c[i] == 0 && s[i] == 0 ? 0u : 1u, 0u);
 
     /* the pole: a width that no number wraps through, the ends of its range, and a half that goes up */
@@ -90,10 +127,17 @@ int main(void)
 
     /* an accepted call leaves the sum, though it lie outside the range */
     s[4] = end;
-    expect("S21 at the end of the range", surfgimlet_step_two(4, c, 15, s, 15, at, SURFGIMLET_ANELASTIC, (uint64_t)1 << 15, &named), SURFGIMLET_ACCEPTED);
+    expect("S21 at the end of the range", solid(c, s, moon, sun, SURFGIMLET_ANELASTIC, at, k1, &named), SURFGIMLET_ACCEPTED);
     expect("S21 beyond it", s[4] == end + 471000 ? 0u : 1u, 0u);
     expect("K1 alone", named, 1u);
-    expect("the next call", surfgimlet_step_two(4, c, 15, s, 15, at, SURFGIMLET_ANELASTIC, (uint64_t)1 << 15, &named), SURFGIMLET_FIELD_RANGE);
+    expect("the next call", solid(c, s, moon, sun, SURFGIMLET_ANELASTIC, at, k1, &named), SURFGIMLET_FIELD_RANGE);
+
+    /* between the steps nothing of the range is tested: step one alone would leave it, both do not */
+    s[4] = end;
+    expect("the bodies", solid(own_c, own_s, north, sun, SURFGIMLET_ANELASTIC, half, 0, &named), SURFGIMLET_ACCEPTED);
+    expect("their S21", own_s[4] > 0 && own_s[4] < 471000 ? 0u : 1u, 0u);
+    expect("both steps", solid(c, s, north, sun, SURFGIMLET_ANELASTIC, half, k1, &named), SURFGIMLET_ACCEPTED);
+    expect("S21 within the range", s[4] == end + own_s[4] - 471000 ? 0u : 1u, 0u);
 
     /* a C20 moved out of the range is not moved back */
     expect("a move", surfgimlet_move_c20(-end, SURFGIMLET_TIDE_FREE, SURFGIMLET_MEAN_TIDE, SURFGIMLET_ANELASTIC, &moved), SURFGIMLET_ACCEPTED);

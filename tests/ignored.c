@@ -5,8 +5,7 @@ void ignored(int64_t *c, int64_t *s, int32_t *multipliers, uint32_t *number, siz
 
 void ignored(int64_t *c, int64_t *s, int32_t *multipliers, uint32_t *number, size_t *place, surfgimlet_phases at, surfgimlet_body body)
 {
-    surfgimlet_step_one(4, c, 15, s, 15, body, body, SURFGIMLET_ANELASTIC);
-    surfgimlet_step_two(4, c, 15, s, 15, at, SURFGIMLET_ANELASTIC, surfgimlet_all_lines(), number);
+    surfgimlet_solid_tide(4, c, 15, s, 15, body, body, SURFGIMLET_ANELASTIC, at, surfgimlet_all_lines(), number);
     surfgimlet_own_lines(4, c, 15, s, 15, 0, 0, at);
     surfgimlet_pole_tide(4, c, 15, s, 15, 0, 0, SURFGIMLET_ANELASTIC);
     surfgimlet_ocean_tide(4, c, 15, s, 15, 0, 0, at, SURFGIMLET_CENTRE_OF_MASS);

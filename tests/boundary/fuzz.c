@@ -7,9 +7,16 @@
 #include "lent.h"
 #include "model.h"
 
-enum { STEP_ONE, STEP_TWO, OWN_LINES, POLE_TIDE, OCEAN_TIDE, MOVE_C20, MULTIPLIERS_OF, NUMBER_OF, FIND_LINE, CALLS };
-static const char *names[CALLS] = {"step_one", "step_two", "own_lines", "pole_tide", "ocean_tide", "move_c20", "multipliers_of", "number_of", "find_line"};
+enum { SOLID_TIDE, OWN_LINES, POLE_TIDE, OCEAN_TIDE, MOVE_C20, MULTIPLIERS_OF, NUMBER_OF, FIND_LINE, CALLS };
+static const char *names[CALLS] = {"solid_tide", "own_lines", "pole_tide", "ocean_tide", "move_c20", "multipliers_of", "number_of", "find_line"};
 static long answered[CALLS][101], differences;
+
+/* what an answer alone does not tell of a solid tide */
+enum { MOON_KIND, SUN_KIND, FIELD_AND_14, MOON_AND_14, SUN_AND_14, SIX_AND_14, MOON_ABOVE_SUN, SUN_3, SUN_4, SUN_5, LEFT_BEYOND, BETWEEN_BEYOND, EVENTS };
+static const char *events[EVENTS] = {"the Moon's kind before 1 or 2", "the Sun's kind before 1 or 2", "1 or 2 before 14", "14 before the Moon's",
+    "14 before the Sun's", "14 before 6", "the Moon's before a lower one of the Sun's", "the Sun's 3", "the Sun's 4", "the Sun's 5", "an entry left beyond the range",
+    "an entry beyond the range after step one, and not after both"};
+static long met[EVENTS];
 
 /* xorshift64*, the seed fixed */
 static uint64_t state = UINT64_C(0x9e3779b97f4a7c15);
@@ -24,6 +31,8 @@ static uint64_t below(uint64_t n) { return (any() >> 11) % n; }
 static int one_in(uint64_t n) { return below(n) == 0; }
 static int64_t within(int64_t size) { return (int64_t)below(2 * (uint64_t)size + 1) - size; }
 static double unit(void) { return (double)(any() >> 11) * 0x1p-53; }
+
+static int64_t end(void) { return one_in(2) ? LIMIT : -LIMIT; }
 
 static int64_t entry(void)
 {
@@ -42,17 +51,20 @@ static int64_t bad_entry(void)
     return bad[below(5)];
 }
 
-static uint32_t choice(uint32_t cases)
+static uint32_t no_choice(uint32_t cases)
 {
     static const uint32_t bad[] = {3, 4, 255, 256, 0x10000, 0x80000000, 0x80000001, 0xffffffff};
-    return one_in(40) ? one_in(2) ? cases : bad[below(8)] : (uint32_t)below(cases);
+    return one_in(2) ? cases : bad[below(8)];
 }
 
-/* degree and lists: one in eight with a fault */
+static uint32_t choice(uint32_t cases) { return one_in(40) ? no_choice(cases) : (uint32_t)below(cases); }
+
+/* degree and lists: one in eight with a fault, one in eight with every entry at an end of the range */
 static uint32_t field(lent *c, lent *s)
 {
     uint32_t n = one_in(50) ? 4 + (uint32_t)below(57) : 4 + (uint32_t)below(10);
     size_t c_length, s_length;
+    int ends;
     if (one_in(64)) n = one_in(2) ? 3 : 61; /* with lists of that degree's length */
     c_length = s_length = model_size(n);
     switch (below(64)) {
@@ -66,8 +78,9 @@ static uint32_t field(lent *c, lent *s)
     case 7: c_length = s_length = 0; break;
     }
     lend(c, c_length); lend(s, s_length);
-    for (size_t i = 0; i < c_length; i++) entries(c)[i] = entry();
-    for (size_t i = 0; i < s_length; i++) entries(s)[i] = entry();
+    ends = one_in(8);
+    for (size_t i = 0; i < c_length; i++) entries(c)[i] = ends ? end() : entry();
+    for (size_t i = 0; i < s_length; i++) entries(s)[i] = ends ? end() : entry();
     if (one_in(16) && c_length && s_length) {
         if (one_in(2)) entries(c)[one_in(3) ? c_length - 1 : below(c_length)] = bad_entry();
         else entries(s)[one_in(3) ? s_length - 1 : below(s_length)] = bad_entry();
@@ -132,7 +145,7 @@ static surfgimlet_body body(double far, double ratio)
     if (b.kind == 0) { b.x *= b.r; b.y *= b.r; b.z *= b.r; }
     if (one_in(12)) to_length_one(&b);
     if (one_in(20)) { double *f[5] = {&b.ratio, &b.x, &b.y, &b.z, &b.r}; *f[below(5)] = odd_double(); }
-    if (one_in(60)) b.kind = choice(2);
+    if (one_in(60)) b.kind = no_choice(2);
     return b;
 }
 
@@ -353,6 +366,39 @@ static void expect(int call, uint32_t answer, uint32_t told, int as_told)
         printf("%s: answered %" PRIu32 ", the model %" PRIu32 "%s\n", names[call], answer, told, as_told ? "" : ", and an entry, a result or a guard differs");
 }
 
+static int beyond(int64_t x) { return x < -LIMIT || x > LIMIT; }
+
+/* counts the events of a solid tide on c and s, which the model leaves as c2 and s2 */
+static void meet(uint32_t n, lent *c, lent *s, lent *c2, lent *s2, surfgimlet_body moon, surfgimlet_body sun, uint32_t love, uint64_t chosen, uint32_t told)
+{
+    model_direction d;
+    uint32_t of_moon = model_see(moon, &d), of_sun = model_see(sun, &d), of_one;
+    int64_t dc[13] = {0}, ds[13] = {0};
+    int left = 0, between = 0;
+    if (told == 100) {
+        int faulty = model_field(n, entries(c), c->length, entries(s), s->length) != 0;
+        met[MOON_KIND] += faulty && love < 2 && sun.kind < 2;
+        met[SUN_KIND] += faulty && love < 2 && moon.kind < 2;
+        return;
+    }
+    of_one = model_step_one(dc, ds, moon, sun, love);
+    met[FIELD_AND_14] += (told == 1 || told == 2) && chosen >> 49;
+    met[MOON_AND_14] += told == 14 && of_moon;
+    met[SUN_AND_14] += told == 14 && !of_moon && of_sun;
+    met[SIX_AND_14] += told == 14 && of_one == 6;
+    met[MOON_ABOVE_SUN] += told == of_moon && of_sun && of_sun < of_moon;
+    if (told > 2 && told < 6 && !of_moon) met[SUN_3 + told - 3]++;
+    for (int i = 0; told == 0 && i < 13; i++) {
+        int64_t now[2] = {entries(c2)[i], entries(s2)[i]}, after_one[2] = {entries(c)[i] + dc[i], entries(s)[i] + ds[i]};
+        for (int k = 0; k < 2; k++) {
+            left |= beyond(now[k]);
+            between |= beyond(after_one[k]) && !beyond(now[k]);
+        }
+    }
+    met[LEFT_BEYOND] += left;
+    met[BETWEEN_BEYOND] += between;
+}
+
 static void over_field(int call)
 {
     static lent c, s, c2, s2;
@@ -388,19 +434,16 @@ static void over_field(int call)
         else if (one_in(8)) { to_a_half_offset(&yp, &xp); xp = -xp; }
         answer = surfgimlet_pole_tide(n, or_null(&c), c.length, or_null(&s), s.length, xp, yp, love);
         told = model_pole_tide(n, entries(&c2), c2.length, entries(&s2), s2.length, xp, yp, love);
-    } else if (call == STEP_ONE) {
-        surfgimlet_body moon = body(3.8e8, 0.0123), sun = body(1.5e11, 332946);
-        uint32_t love = choice(2);
-        if (one_in(2)) to_a_half(&moon, &sun, love);
-        if (one_in(10)) to_the_bound(&moon, &sun, love);
-        answer = surfgimlet_step_one(n, or_null(&c), c.length, or_null(&s), s.length, moon, sun, love);
-        told = model_step_one(n, entries(&c2), c2.length, entries(&s2), s2.length, moon, sun, love);
     } else {
+        surfgimlet_body moon = body(3.8e8, 0.0123), sun = body(1.5e11, 332946);
         surfgimlet_phases f = phases();
         uint32_t love = choice(2);
         uint64_t chosen = selection();
-        answer = surfgimlet_step_two(n, or_null(&c), c.length, or_null(&s), s.length, f, love, chosen, &got.lines);
-        told = model_step_two(n, entries(&c2), c2.length, entries(&s2), s2.length, f, love, chosen, &as_told.lines);
+        if (one_in(2)) to_a_half(&moon, &sun, love);
+        if (one_in(10)) to_the_bound(&moon, &sun, love);
+        told = model_solid_tide(n, entries(&c2), c2.length, entries(&s2), s2.length, moon, sun, love, f, chosen, &as_told.lines);
+        meet(n, &c, &s, &c2, &s2, moon, sun, love, chosen, told);
+        answer = surfgimlet_solid_tide(n, or_null(&c), c.length, or_null(&s), s.length, moon, sun, love, f, chosen, &got.lines);
     }
     expect(call, answer, told, same(&c, &c2) && same(&s, &s2) && same_results(&got, &as_told));
 }
@@ -466,8 +509,8 @@ static void alone(int call)
 
 int main(int argc, char **argv)
 {
-    static const int numbers[CALLS][12] = {{0, 1, 2, 3, 4, 5, 6, 100, -1}, {0, 1, 2, 14, 100, -1}, {0, 1, 2, 12, 13, -1},
-        {0, 1, 2, 15, 100, -1}, {0, 1, 2, 7, 8, 9, 100, -1}, {0, 2, 100, -1}, {0, 10, -1}, {0, 10, -1}, {0, 10, 11, -1}};
+    static const int numbers[CALLS][12] = {{0, 1, 2, 3, 4, 5, 6, 14, 100, -1}, {0, 1, 2, 12, 13, -1}, {0, 1, 2, 15, 100, -1},
+        {0, 1, 2, 7, 8, 9, 100, -1}, {0, 2, 100, -1}, {0, 10, -1}, {0, 10, -1}, {0, 10, 11, -1}};
     long count = argc > 1 ? atol(argv[1]) : 1000000, missing = 0;
     if (surfgimlet_all_lines() != (UINT64_C(1) << 49) - 1 || surfgimlet_major_lines() != model_major_lines()) {
         differences++;
@@ -477,8 +520,7 @@ int main(int argc, char **argv)
     for (long i = 0; i < count; i++) {
         uint64_t pick = below(26);
         if (pick < 8) over_field(OCEAN_TIDE);
-        else if (pick < 12) over_field(STEP_ONE);
-        else if (pick < 15) over_field(STEP_TWO);
+        else if (pick < 15) over_field(SOLID_TIDE);
         else if (pick < 19) over_field(OWN_LINES);
         else if (pick < 21) over_field(POLE_TIDE);
         else alone(MOVE_C20 + (int)below(4));
@@ -491,6 +533,10 @@ int main(int argc, char **argv)
         }
         puts("");
     }
-    printf("fuzz: 200000 waves, %ld inputs, %ld differences, %ld answers never met\n", count, differences, missing);
+    for (int i = 0; i < EVENTS; i++) {
+        printf("fuzz: solid_tide, %s: %ld times\n", events[i], met[i]);
+        missing += met[i] == 0;
+    }
+    printf("fuzz: 200000 waves, %ld inputs, %ld differences, %ld answers or events never met\n", count, differences, missing);
     return differences != 0 || missing != 0;
 }

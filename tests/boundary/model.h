@@ -140,43 +140,6 @@ static void model_add_five(int64_t *c, int64_t *s, model_sums sums)
     s[model_place(2, 2)] += model_nearest(sums.s22, INT64_C(1) << 30);
 }
 
-/* ---- step two */
-
-/* the lines that have an amplitude of at least ten in the anelastic model */
-static uint64_t model_major_lines(void)
-{
-    uint64_t chosen = 0, bit = 1;
-    for (int i = 0; i < 49; i++, bit *= 2) {
-        int32_t one = abs(model_lines[i].one), two = abs(model_lines[i].two);
-        if (i < 26 ? two >= 10 : i < 47 ? one >= 10 || two >= 10 : one >= 10) chosen += bit;
-    }
-    return chosen;
-}
-
-static uint32_t model_step_two(uint32_t n, int64_t *c, size_t c_length, int64_t *s, size_t s_length,
-                               surfgimlet_phases b, uint32_t love, uint64_t selection, uint32_t *lines)
-{
-    model_sums sums = {0, 0, 0, 0, 0};
-    uint32_t refusal, count = 0;
-    if (love > 1) return 100;
-    refusal = model_field(n, c, c_length, s, s_length);
-    if (refusal) return refusal;
-    if (selection >= UINT64_C(1) << 49) return 14;
-    for (int i = 0; i < 49; i++) {
-        int64_t one = model_lines[i].one, two = model_lines[i].two;
-        int32_t m[6] = {0};
-        if (!(selection & UINT64_C(1) << i)) continue;
-        count++;
-        model_multipliers_of(model_lines[i].number, m);
-        if (i < 26) model_line(&sums, 1, love ? two : one, 0, model_phase(m, b));
-        else if (i >= 47) model_line(&sums, 2, one, 0, model_phase(m, b));
-        else if (love) model_line(&sums, 0, one, two, model_phase(m, b));
-    }
-    model_add_five(c, s, sums);
-    *lines = count;
-    return 0;
-}
-
 /* ---- lines of an operator's own */
 
 static int model_record(const surfgimlet_own_line *l)
@@ -235,7 +198,7 @@ static uint32_t model_move_c20(int64_t c20, uint32_t from, uint32_t to, uint32_t
     return 0;
 }
 
-/* ---- step one */
+/* ---- solid tide, step one */
 
 typedef struct { double u, v, w; } model_direction;
 
@@ -307,14 +270,12 @@ static uint32_t model_products(surfgimlet_body moon, surfgimlet_body sun, uint32
     return 0;
 }
 
-static uint32_t model_step_one(uint32_t n, int64_t *c, size_t c_length, int64_t *s, size_t s_length,
-                               surfgimlet_body moon, surfgimlet_body sun, uint32_t love)
+/* step one's counts at the ten places, without the permanent part; or its refusal */
+static uint32_t model_step_one(int64_t *c, int64_t *s, surfgimlet_body moon, surfgimlet_body sun, uint32_t love)
 {
     double dc[10], ds[10];
-    uint32_t refusal;
-    if (love > 1 || moon.kind > 1 || sun.kind > 1) return 100;
-    if ((refusal = model_field(n, c, c_length, s, s_length))) return refusal;
-    if ((refusal = model_products(moon, sun, love, dc, ds))) return refusal;
+    uint32_t refusal = model_products(moon, sun, love, dc, ds);
+    if (refusal) return refusal;
     for (int i = 0; i < 10; i++)
         if (!(dc[i] > -0x1p52 && dc[i] < 0x1p52 && ds[i] > -0x1p52 && ds[i] < 0x1p52)) return 6;
     for (int i = 0; i < 10; i++) {
@@ -322,6 +283,57 @@ static uint32_t model_step_one(uint32_t n, int64_t *c, size_t c_length, int64_t 
         if (i != 0 && i != 3 && i != 7) s[3 + i] += model_count(ds[i]);
     }
     c[3] -= model_permanent(love);
+    return 0;
+}
+
+/* ---- solid tide, step two */
+
+/* the lines that have an amplitude of at least ten in the anelastic model */
+static uint64_t model_major_lines(void)
+{
+    uint64_t chosen = 0, bit = 1;
+    for (int i = 0; i < 49; i++, bit *= 2) {
+        int32_t one = abs(model_lines[i].one), two = abs(model_lines[i].two);
+        if (i < 26 ? two >= 10 : i < 47 ? one >= 10 || two >= 10 : one >= 10) chosen += bit;
+    }
+    return chosen;
+}
+
+/* step two's counts at the five places; answers how many lines are named */
+static uint32_t model_step_two(int64_t *c, int64_t *s, uint32_t love, surfgimlet_phases b, uint64_t selection)
+{
+    model_sums sums = {0, 0, 0, 0, 0};
+    uint32_t count = 0;
+    for (int i = 0; i < 49; i++) {
+        int64_t one = model_lines[i].one, two = model_lines[i].two;
+        int32_t m[6] = {0};
+        if (!(selection & UINT64_C(1) << i)) continue;
+        count++;
+        model_multipliers_of(model_lines[i].number, m);
+        if (i < 26) model_line(&sums, 1, love ? two : one, 0, model_phase(m, b));
+        else if (i >= 47) model_line(&sums, 2, one, 0, model_phase(m, b));
+        else if (love) model_line(&sums, 0, one, two, model_phase(m, b));
+    }
+    model_add_five(c, s, sums);
+    return count;
+}
+
+/* ---- solid tide, the call: the sum of the two is added once */
+
+static uint32_t model_solid_tide(uint32_t n, int64_t *c, size_t c_length, int64_t *s, size_t s_length, surfgimlet_body moon,
+                                 surfgimlet_body sun, uint32_t love, surfgimlet_phases b, uint64_t selection, uint32_t *lines)
+{
+    int64_t dc[13] = {0}, ds[13] = {0}; /* up to place (4,2) */
+    uint32_t refusal;
+    if (love > 1 || moon.kind > 1 || sun.kind > 1) return 100;
+    if ((refusal = model_field(n, c, c_length, s, s_length))) return refusal;
+    if (selection >= UINT64_C(1) << 49) return 14;
+    if ((refusal = model_step_one(dc, ds, moon, sun, love))) return refusal;
+    *lines = model_step_two(dc, ds, love, b, selection);
+    for (int i = 0; i < 13; i++) {
+        c[i] += dc[i];
+        s[i] += ds[i];
+    }
     return 0;
 }
 

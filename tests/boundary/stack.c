@@ -36,10 +36,10 @@ static void fill(void)
 
 static const surfgimlet_phases b = {1, 2, 3, 4, 5, 6};
 static const surfgimlet_body moon = {SURFGIMLET_DIRECTION, 0.0123, 0.6, 0.0, 0.8, 3.8e8};
+static const surfgimlet_body sun = {SURFGIMLET_RECTANGULAR, 332946, 0.9e11, 0.0, 1.2e11, 1.5e11};
 
 static void nothing(void) { answer = 0; }
-static void step_one(void) { answer = surfgimlet_step_one(60, c, 1891, s, 1891, moon, moon, 1); }
-static void step_two(void) { answer = surfgimlet_step_two(60, c, 1891, s, 1891, b, 1, surfgimlet_all_lines(), &number); }
+static void solid_tide(void) { answer = surfgimlet_solid_tide(60, c, 1891, s, 1891, moon, sun, 1, b, surfgimlet_all_lines(), &number); }
 static void own_lines(void) { answer = surfgimlet_own_lines(60, c, 1891, s, 1891, lines, 64, b); }
 static void pole_tide(void) { answer = surfgimlet_pole_tide(60, c, 1891, s, 1891, 123456, -654321, 1); }
 static void ocean_tide(void) { answer = surfgimlet_ocean_tide(60, c, 1891, s, 1891, sheet, sheet_length, b, 0); }
@@ -64,9 +64,9 @@ static size_t taken(void (*call)(void))
 
 int main(void)
 {
-    static const struct { const char *name; void (*call)(void); } calls[] = {{"step_one", step_one}, {"step_two", step_two},
-        {"own_lines", own_lines}, {"pole_tide", pole_tide}, {"ocean_tide", ocean_tide}, {"move_c20", move_c20}, {"multipliers_of", multipliers_of},
-        {"number_of", number_of}, {"find_line", find_line}};
+    static const struct { const char *name; void (*call)(void); } calls[] = {{"solid_tide", solid_tide}, {"own_lines", own_lines},
+        {"pole_tide", pole_tide}, {"ocean_tide", ocean_tide}, {"move_c20", move_c20}, {"multipliers_of", multipliers_of}, {"number_of", number_of},
+        {"find_line", find_line}};
     size_t deepest = 0, frame;
     fill();
     frame = taken(nothing);

@@ -7,10 +7,10 @@
 
 #define LEAST 23000 /* cases, so that an input cut short is noticed */
 
-enum { STEP_ONE, STEP_TWO, OWN_LINES, POLE_TIDE, OCEAN_TIDE, MOVE_C20, MULTIPLIERS_OF, NUMBER_OF, FIND_LINE, ALL_LINES, MAJOR_LINES, CALLS };
-static const char *names[CALLS] = {"step_one", "step_two", "own_lines", "pole_tide", "ocean_tide", "move_c20", "multipliers_of", "number_of", "find_line",
-    "all_lines", "major_lines"};
-static const int numbers[CALLS][10] = {{0, 1, 2, 3, 4, 5, 6, 100, -1}, {0, 1, 2, 14, 100, -1}, {0, 1, 2, 12, 13, -1},
+enum { SOLID_TIDE, OWN_LINES, POLE_TIDE, OCEAN_TIDE, MOVE_C20, MULTIPLIERS_OF, NUMBER_OF, FIND_LINE, ALL_LINES, MAJOR_LINES, CALLS };
+static const char *names[CALLS] = {"solid_tide", "own_lines", "pole_tide", "ocean_tide", "move_c20", "multipliers_of", "number_of", "find_line", "all_lines",
+    "major_lines"};
+static const int numbers[CALLS][10] = {{0, 1, 2, 3, 4, 5, 6, 14, 100, -1}, {0, 1, 2, 12, 13, -1},
     {0, 1, 2, 15, 100, -1}, {0, 1, 2, 7, 8, 9, 100, -1}, {0, 2, 100, -1}, {0, 10, -1}, {0, 10, -1}, {0, 10, 11, -1}, {0, -1}, {0, -1}};
 static long answered[CALLS][101], cases, differences;
 
@@ -115,12 +115,10 @@ static void over_field(int call)
     static lent_records lines, kept; /* those lent last */
     results got = fresh(), told = fresh();
     uint32_t choice = call == OWN_LINES ? 0 : (uint32_t)word(), number, answer;
-    if (call == STEP_ONE) {
+    if (call == SOLID_TIDE) {
         surfgimlet_body moon = body(), sun = body();
-        answer = surfgimlet_step_one(n, or_null(&c), c.length, or_null(&s), s.length, moon, sun, choice);
-    } else if (call == STEP_TWO) {
         surfgimlet_phases b = phases();
-        answer = surfgimlet_step_two(n, or_null(&c), c.length, or_null(&s), s.length, b, choice, bits(), &got.lines);
+        answer = surfgimlet_solid_tide(n, or_null(&c), c.length, or_null(&s), s.length, moon, sun, choice, b, bits(), &got.lines);
     } else if (call == OWN_LINES) {
         surfgimlet_phases b;
         records(&lines);
@@ -136,7 +134,7 @@ static void over_field(int call)
         answer = surfgimlet_ocean_tide(n, or_null(&c), c.length, or_null(&s), s.length, length ? bytes : NULL, length, b, choice);
     }
     number = (uint32_t)word();
-    if (call == STEP_TWO && number == 0) told.lines = (uint32_t)word();
+    if (call == SOLID_TIDE && number == 0) told.lines = (uint32_t)word();
     change(&told_c); change(&told_s);
     expect(call, answer, number, same(&c, &told_c) && same(&s, &told_s) && !memcmp(&lines, &kept, sizeof lines) && same_results(&got, &told));
     memcpy(&c, &told_c, sizeof c); memcpy(&s, &told_s, sizeof s);

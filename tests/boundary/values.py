@@ -8,7 +8,7 @@ entries must stay as they were.
 import struct
 import sys
 from collections import Counter
-from itertools import product
+from itertools import combinations, product
 from math import inf, ldexp, nextafter
 from pathlib import Path
 
@@ -33,12 +33,18 @@ chance = Chance(19960621)
 
 # --- Calls: what is given, by the numbers that C uses for the choices ---
 
-def step_one(moon, sun, love):
-    return 'step_one', love, *((KINDS.index(kind), ratio, *floats) for ratio, (kind, *floats) in (moon, sun))
+def solid_tide(moon, sun, phases, selection, love):
+    return 'solid_tide', love, *((KINDS.index(kind), ratio, *floats) for ratio, (kind, *floats) in (moon, sun)), phases, selection
 
 
-def step_two(phases, love, selection=t.ALL_LINES):
-    return 'step_two', love, phases, selection
+def by_bodies(moon, sun, love):
+    """The solid tide of these bodies, with any phases and lines."""
+    return solid_tide(moon, sun, g.phases(chance), g.lines_or_none(chance), love)
+
+
+def by_lines(phases, love, selection=t.ALL_LINES):
+    """The solid tide of these lines, with any bodies that pass."""
+    return solid_tide(*telling.pair(chance), phases, selection, love)
 
 
 def ocean_tide(data, phases, frame):
@@ -70,13 +76,12 @@ def on_field(call, N, C, S):
     if name == 'own_lines':
         return t.own_lines(N, C, S, *args)
     choice, *rest = args
-    if name == 'step_one':
-        love, kinds = named(LOVES, choice), [named(KINDS, one[0]) for one in rest]
+    if name == 'solid_tide':
+        *bodies, phases, selection = rest
+        love, kinds = named(LOVES, choice), [named(KINDS, one[0]) for one in bodies]
         if love and all(kinds):
-            return t.step_one(N, C, S, *((ratio, (kind, *floats)) for kind, (_, ratio, *floats) in zip(kinds, rest)), love)
-    elif name == 'step_two':
-        if named(LOVES, choice):
-            return t.step_two(N, C, S, rest[0], named(LOVES, choice), rest[1])
+            moon, sun = ((ratio, (kind, *floats)) for kind, (_, ratio, *floats) in zip(kinds, bodies))
+            return t.solid_tide(N, C, S, moon, sun, love, phases, selection)
     elif name == 'pole_tide':
         if named(LOVES, choice):
             return t.pole_tide(N, C, S, *rest, named(LOVES, choice))
@@ -125,10 +130,9 @@ def given_words(call):
         records, phases = args
         return name, len(records), *(word for record in records for word in record), *phases
     choice, *rest = args
-    if name == 'step_one':
-        return name, choice, *(word for kind, *floats in rest for word in (kind, *map(bits, floats)))
-    if name == 'step_two':
-        return name, choice, *rest[0], rest[1]
+    if name == 'solid_tide':
+        *bodies, phases, selection = rest
+        return name, choice, *(word for kind, *floats in bodies for word in (kind, *map(bits, floats))), *phases, selection
     if name == 'pole_tide':
         return call
     return name, choice, *rest[0], len(rest[1]), rest[1].hex() or '-'
@@ -222,53 +226,59 @@ def choices(call):
         yield (4, [g.EDGE + 1] * 15, [0] * 15), [wrong]
 
 
-# --- Step one ---
+# --- Solid tide: bodies ---
 
 def some_love():
     return chance.below(2)
 
 
 def bodies():
-    """Refusals 3, 4 and 5 of either body, the Moon's before the Sun's, the lowest of one body; and 100, 1 and 2 before them."""
+    """Refusals 3, 4 and 5 of either body, the Moon's before the Sun's, the lowest of one body; and 100 before all others."""
     faults = g.faulty_bodies()
     field = g.varied_field(chance, 4)
     for number, fault in faults:
         assert t.body_test(fault) == number
         other, good = chance.one(*faults)[1], chance.one(*g.GOOD)
-        yield field, [*either(step_one, fault, good), *either(step_one, good, fault), step_one(fault, other, 0), step_one(other, fault, 1)]
+        yield field, [*either(by_bodies, fault, good), *either(by_bodies, good, fault), by_bodies(fault, other, 0), by_bodies(other, fault, 1)]
     for one in g.GOOD:
         for first, second in (((0, -1.0), (3, inf)), ((4, 1.0), (1, inf)), ((4, inf), (0, inf)), ((4, 1.0), (1, 7e9)), ((0, 0.0), (2, 7e9))):
             worse = g.spoilt_body(g.spoilt_body(one, *first), *second)
-            yield field, [step_one(worse, one, 0), step_one(one, worse, 1), step_one(worse, worse, 1)]
+            yield field, [by_bodies(worse, one, 0), by_bodies(one, worse, 1), by_bodies(worse, worse, 1)]
     for number, fault in faults[::9]:
-        yield (3, *field[1:]), [step_one(fault, fault, 0)]
-        yield (4, g.spoilt(field[1], 0, g.EDGE + 1), field[2]), [step_one(fault, fault, 0)]
-        for bad in NO_CHOICES:
-            name, love, moon, sun = step_one(fault, fault, some_love())
-            yield ZEROS, [(name, love, (bad, *moon[1:]), sun), (name, love, moon, (bad, *sun[1:]))]
+        for bad in (2, *NO_CHOICES):
+            name, love, moon, sun, *rest = solid_tide(fault, fault, g.phases(chance), g.selection(chance), some_love())
+            lent = chance.one(field, (3, *field[1:]), (4, g.spoilt(field[1], chance.below(15), g.EDGE + 1), field[2]))
+            yield lent, [(name, love, (bad, *moon[1:]), sun, *rest), (name, love, moon, (bad, *sun[1:]), *rest)]
+
+
+def orders():
+    """Every set of faults of the solid tide, those of two more often: the number that is first in its order."""
+    for faults in (some for count in (2, 2, 2, 2, *range(1, 11)) for some in combinations(range(10), count)):
+        field, moon, sun, selection = g.solid_with(chance, faults)
+        yield field, [solid_tide(moon, sun, g.phases(chance), selection, some_love())]
 
 
 def body_edges():
     """The last floats that pass 4 and 5 and the next beyond, for either body."""
     for r, ratio, axis, kind in product((1e8, nextafter(1e8, inf), nextafter(1e12, 0), 1e12), (5e-324, 1e-310, 0.1), g.AXES[:3], KINDS):
         one = ratio, g.placed(kind, *axis, r)
-        yield ZEROS, [step_one(one, g.GOOD[0], some_love()), step_one(g.GOOD[1], one, some_love())]
+        yield ZEROS, [by_bodies(one, g.GOOD[0], some_love()), by_bodies(g.GOOD[1], one, some_love())]
     for ratio, kind in product((nextafter(1e6, 0), 1e6, nextafter(1e6, inf)), KINDS):
         one = ratio, g.placed(kind, *g.AXES[3], 1e12)
-        yield ZEROS, [*either(step_one, one, g.GOOD[1]), *either(step_one, g.GOOD[0], one)]
+        yield ZEROS, [*either(by_bodies, one, g.GOOD[1]), *either(by_bodies, g.GOOD[0], one)]
     for axis, kind in product(g.AXES, KINDS):
         one = 0.5, g.placed(kind, *axis, 1e9)
-        yield ZEROS, [*either(step_one, one, g.GOOD[0]), *either(step_one, g.GOOD[1], one), *either(step_one, one, one)]
+        yield ZEROS, [*either(by_bodies, one, g.GOOD[0]), *either(by_bodies, g.GOOD[1], one), *either(by_bodies, one, one)]
     high, low = 1.0 + ldexp(1.0, -40), 1.0 - ldexp(1.0, -40)
     for goal in (high, nextafter(high, 2), nextafter(high, 0), low, nextafter(low, 0), nextafter(low, 2)):
         for i in range(24):                                             # r a power of two, so that x/r gives the direction back
             one = 0.01, g.placed(KINDS[i % 2], *telling.at_length_one(chance, goal), ldexp(1.0, chance.between(27, 39)))
             assert t.body_test(one) == (0 if low <= goal <= high else 5)
-            yield ZEROS, [step_one(one, g.GOOD[0], some_love()), step_one(g.GOOD[1], one, some_love())]
+            yield ZEROS, [by_bodies(one, g.GOOD[0], some_love()), by_bodies(g.GOOD[1], one, some_love())]
     for at, size, sign in product((1, 2, 3), (1.0 + ldexp(1.0, -41), 1.0 - ldexp(1.0, -41)), (1, -1)):
         for x in (size, nextafter(size, 2), nextafter(size, 0)):
             one = g.spoilt_body((1.0, (t.DIRECTION, 0.0, 0.0, 0.0, 1e9)), at, sign * x)
-            yield ZEROS, [step_one(one, g.GOOD[0], some_love()), step_one(g.GOOD[0], one, some_love())]
+            yield ZEROS, [by_bodies(one, g.GOOD[0], some_love()), by_bodies(g.GOOD[0], one, some_love())]
 
 
 def bounds_of_six():
@@ -276,58 +286,59 @@ def bounds_of_six():
     for coefficient, love, sign, _ in product(telling.COEFFICIENTS[:5], LOVES, (1, -1), range(4)):
         for size in (t.COUNT_BOUND, t.COUNT_BOUND - 0.5):
             moon, sun = telling.at_the_bound(chance, coefficient, love, sign * size)
-            yield ZEROS, [step_one(moon, sun, LOVES.index(love)), step_one(sun, moon, LOVES.index(love))]
+            yield ZEROS, [by_bodies(moon, sun, LOVES.index(love)), by_bodies(sun, moon, LOVES.index(love))]
     for axis in g.AXES:
         heavy = 1e6, g.placed(t.DIRECTION, *axis, 1e8)
         for other in (g.GOOD[0], g.spoilt_body(g.GOOD[0], 1, 7.0), g.spoilt_body(g.GOOD[1], 0, 0.0), heavy, g.sun(chance)):
-            yield ZEROS, [*either(step_one, heavy, other), *either(step_one, other, heavy)]
+            yield ZEROS, [*either(by_bodies, heavy, other), *either(by_bodies, other, heavy)]
+
+
+def at_a_half(coefficient, love, which=None):
+    return solid_tide(*telling.at_a_half(chance, coefficient, LOVES[love], which), g.phases(chance), g.few_lines(chance), love)
 
 
 def halves():
-    """Counts at a half, for each coefficient and Love model; twelve calls on a field."""
-    for coefficient, love in product(telling.COEFFICIENTS, LOVES):
-        found = [telling.at_a_half(chance, coefficient, love) for _ in range(HALVES)]
-        for i in range(0, HALVES, 12):
-            yield ZEROS, [step_one(*bodies, LOVES.index(love)) for bodies in found[i:i + 12]]
+    """Counts of step one at a half, for each coefficient and Love model, beside few lines; twelve calls on a field."""
+    for coefficient, love in product(telling.COEFFICIENTS, range(2)):
+        yield from in_row([at_a_half(coefficient, love) for _ in range(HALVES)], 12, ZEROS)
     for coefficient, which in zip(telling.COEFFICIENTS[1:5], (0, 1, 2, 0)):     # C21, S21, C22, S22 where the rounding of kI*Q or kI*P shows
-        yield ZEROS, [step_one(*telling.at_a_half(chance, coefficient, t.ANELASTIC, which), 1) for _ in range(HALVES)]
+        yield ZEROS, [at_a_half(coefficient, 1, which) for _ in range(HALVES)]
 
 
 def ordinary_bodies():
     for _ in range(150):
         moon, sun = g.moon(chance), g.sun(chance)
-        calls = [*either(step_one, moon, sun), *either(step_one, sun, moon), *either(step_two, g.phases(chance))]
-        yield g.varied_field(chance, chance.between(4, 12)), calls
+        yield g.varied_field(chance, chance.between(4, 12)), [*either(by_bodies, moon, sun), *either(by_bodies, sun, moon)]
     moon, sun = g.moon(chance), g.sun(chance)
     for N in (4, 5, 17, 60):                                            # on its own result, and refused with 2 where that left the range
-        yield (N, [g.EDGE] * t.size(N), [-g.EDGE] * t.size(N)), either(step_one, moon, sun) * 2
-        yield g.any_field(chance, N), either(step_one, moon, sun) * 2
+        yield (N, [g.EDGE] * t.size(N), [-g.EDGE] * t.size(N)), either(by_bodies, moon, sun) * 2
+        yield g.any_field(chance, N), either(by_bodies, moon, sun) * 2
 
 
-# --- Step two ---
+# --- Solid tide: lines ---
 
 def lines():
-    yield ZEROS, either(step_two, g.NONE) + either(step_two, (1 << 30, 0, 0, 0, 0, 0)) + either(step_two, (g.U32,) * 6)
+    yield ZEROS, either(by_lines, g.NONE) + either(by_lines, (1 << 30, 0, 0, 0, 0, 0)) + either(by_lines, (g.U32,) * 6)
     for place, k, d in product(range(6), range(8), (-1, 0, 1)):         # each argument at the edges of the eighths
-        yield ZEROS, either(step_two, tuple(g.spoilt(g.NONE, place, (k << 29) + d & g.U32)))
+        yield ZEROS, either(by_lines, tuple(g.spoilt(g.NONE, place, (k << 29) + d & g.U32)))
     for place in range(6):                                              # each argument alone
-        yield ZEROS, [call for _ in range(8) for call in either(step_two, tuple(g.spoilt(g.NONE, place, chance.below(1 << 32))))]
+        yield ZEROS, [call for _ in range(8) for call in either(by_lines, tuple(g.spoilt(g.NONE, place, chance.below(1 << 32))))]
     for phases in telling.tie_phases():
-        yield ZEROS, either(step_two, phases)
+        yield ZEROS, either(by_lines, phases)
     for _ in range(200):
-        yield g.varied_field(chance, chance.between(4, 8)), either(step_two, g.phases(chance))
+        yield g.varied_field(chance, chance.between(4, 8)), either(by_lines, g.phases(chance))
     for N in (4, 5, 17, 60):
-        calls = either(step_two, g.phases(chance))
+        calls = either(by_lines, g.phases(chance))
         yield (N, [g.EDGE] * t.size(N), [-g.EDGE] * t.size(N)), calls * 2
         yield g.any_field(chance, N), calls * 2
 
 
 def both_models(phases, selection):
-    return [step_two(phases, love, selection) for love in range(2)]
+    return [by_lines(phases, love, selection) for love in range(2)]
 
 
 def some_lines(selection):
-    return step_two(g.phases(chance), some_love(), selection)
+    return by_lines(g.phases(chance), some_love(), selection)
 
 
 def selections():
@@ -350,10 +361,10 @@ def selections():
         yield g.any_field(chance, chance.between(4, 10)), both_models(g.phases(chance), selection)
     for _ in range(150):
         phases, chosen = g.phases(chance), [g.selection(chance) for _ in range(4)]
-        yield g.varied_field(chance, chance.between(4, 8)), [step_two(phases, some_love(), selection) for selection in (*chosen, chosen[0])]
+        yield g.varied_field(chance, chance.between(4, 8)), [by_lines(phases, some_love(), selection) for selection in (*chosen, chosen[0])]
     for _ in range(30):                                                 # other calls between them
         calls = [some_lines(g.selection(chance)) for _ in range(3)]
-        between = [step_one(g.moon(chance), g.sun(chance), some_love()), some_own(g.records(chance, chance.below(9)))]
+        between = some_pole(g.offsets(chance)), some_own(g.records(chance, chance.below(9)))
         yield g.varied_field(chance, 4), [calls[0], between[0], calls[1], between[1], calls[2]]
     for N in (4, 5, 17, 60):                                            # on its own result, and refused with 2 where that left the range
         calls = [some_lines(g.accepted_selection(chance)), some_lines(0), some_lines(g.accepted_selection(chance) | 1 << 49)]
@@ -423,7 +434,7 @@ def own_waves():
         yield ZEROS, [own_lines(records, phases)]
     for one, beside in product(telling.SUMS, (0, 1)):
         yield ZEROS, [own_lines(*telling.at_a_tie(chance, *one, beside)[:2]) for _ in range(4)]
-    yield ZEROS, [own_lines(telling.OWN_RECORDS, telling.DAY_PHASES), step_two(telling.DAY_PHASES, 1)]
+    yield ZEROS, [own_lines(telling.OWN_RECORDS, telling.DAY_PHASES), by_lines(telling.DAY_PHASES, 1)]
 
 
 def own_lists():
@@ -437,7 +448,7 @@ def own_lists():
         yield g.any_field(chance, chance.between(4, 14)), [*calls, own_lines([], phases)]
     for _ in range(20):
         call = lambda: some_own(chance.one(g.records(chance, chance.below(9)), g.records(chance, chance.below(9)), g.faulty_records(chance, 3)))
-        yield g.varied_field(chance, 4), [call(), step_two(g.phases(chance), chance.below(2)), call(), call(), call()]
+        yield g.varied_field(chance, 4), [call(), by_lines(g.phases(chance), chance.below(2)), call(), call(), call()]
     for N in (4, 5, 17, 60):                                            # on its own result, and refused with 2 where that left the range
         calls = [some_own(g.records(chance, 64)), some_own([]), some_own(g.faulty_records(chance, 1))]
         yield (N, [g.EDGE] * t.size(N), [-g.EDGE] * t.size(N)), calls
@@ -479,8 +490,8 @@ def pole_offsets():
         yield g.any_field(chance, chance.between(4, 14)), [some_pole(g.offsets(chance)), some_pole(g.offsets(chance))]
     for _ in range(20):
         call = lambda: some_pole(g.faulty_offsets(chance) if chance.one_in(5) else g.offsets(chance))
-        between = [step_one(g.moon(chance), g.sun(chance), some_love()), some_lines(g.selection(chance)),
-                   some_own(g.records(chance, chance.below(9))), some_ocean(g.write_sheet(*g.sheet(chance, 2, 2, 4, 4)))]
+        between = [some_lines(g.selection(chance)), some_own(g.records(chance, chance.below(9))),
+                   some_ocean(g.write_sheet(*g.sheet(chance, 2, 2, 4, 4)))]
         yield g.varied_field(chance, chance.between(4, 6)), [one for other in between for one in (call(), call(), other)] + [call()]
     for N in (4, 5, 17, 60):                                            # on its own result, and refused with 2 where that left the range
         for edge in (g.EDGE, -g.EDGE):
@@ -592,7 +603,9 @@ def printed():
     nine = g.write_sheet([(2, 0, 0, 0, 0, 0)], [[1_000_000]], [(2, 2, [(1000, 0, 0, -500)])])
     for tau, data in product((0, 1 << 29), (nine, nine[:33], nine + b'\0')):
         yield ZEROS, either(ocean_tide, data, (tau, 0, 0, 0, 0, 0))
-    yield ZEROS, [step_one(*telling.DAY_BODIES, 1), step_two(telling.DAY_PHASES, 1)]
+    day = either(solid_tide, *telling.DAY_BODIES, telling.DAY_PHASES, t.ALL_LINES)
+    yield ZEROS, day
+    yield telling.day_field(), day[1:] * 3                              # out of the range by step one alone, then by both, then refused
 
 
 def cases():
@@ -600,10 +613,10 @@ def cases():
     yield from printed()
     yield from numbers()
     low = g.write_sheet(*g.SMALL[:2], g.SMALL[2][:2])                   # its places of degree 1 alone
-    for call in (step_one(*g.GOOD, 1), step_two((1, 2, 3, 4, 5, 6), 1), ocean_tide(low, (6, 5, 4, 3, 2, 1), 0)):
+    for call in (solid_tide(*g.GOOD, (1, 2, 3, 4, 5, 6), t.ALL_LINES, 1), ocean_tide(low, (6, 5, 4, 3, 2, 1), 0)):
         yield from fields(call)
         yield from choices(call)
-    for part in (bodies, body_edges, bounds_of_six, ordinary_bodies, halves, lines, layouts, sheet_values, synthesis, ocean_ties, waves):
+    for part in (bodies, orders, body_edges, bounds_of_six, ordinary_bodies, halves, lines, layouts, sheet_values, synthesis, ocean_ties, waves):
         yield from part()
     yield from fields(own_lines(telling.OWN_RECORDS, (1, 2, 3, 4, 5, 6)))
     for part in (records_refused, own_waves, own_lists, selections):

@@ -5,15 +5,20 @@ use Prim.Native.Nat.{ℕ, zero, suc, _+_, _*_, _^_, _≤_, _<_}
 use native.Mathlib.Nat.{mul-le-mul-right}
 use native.Mathlib.Numerals.{add-one}
 use native.Mathlib.Omega.{arith}
-use lib.IntN.{ℤ, natAbs, _+ℤ_}
+use lib.IntN.{ℤ, pos, natAbs, _+ℤ_}
+use lib.ListN.{getD}
+use mir.Syntax.{w64}
+use mir.Facts.{toZ-ofZ}
 use Rattle.whole.specs.Nearest.{nearest}
 use Rattle.whole.specs.Sum.{sumTo}
-use Rattle.whole.proofs.Parts.{abs-sum}
+use Rattle.whole.proofs.Machine.{read}
+use Rattle.whole.proofs.Parts.{abs-sum, fits-abs}
 use Rattle.whole.proofs.Rounding.{nearest-size}
 use Rattle.whole.proofs.Sums.{sum-next}
+use Rattle.bands.specs.declared.Corrections.{Corrections}
 use Rattle.bands.specs.declared.Line.{Line}
 use Rattle.bands.specs.declared.Sums.{Sums}
-use Rattle.bands.specs.Bands.{Coefficient, C20, C21, S21, C22, S22, term, plusLine, sumOf, correctionOf, correctionsOf}
+use Rattle.bands.specs.Bands.{Coefficient, C20, C21, S21, C22, S22, term, plusLine, sumOf, correctionOf, correctionsOf, forC, forS}
 use Rattle.bands.specs.Inner.{Light, LineRoom, sumsOf, Bounded, roundedOf, Small}
 use Rattle.bands.proofs.Terms.{term-size}
 
@@ -76,7 +81,7 @@ module _ (lines : ℕ → Line) (C S : ℕ → ℤ) (m i : ℕ) (hm : m ≤ 2 ^ 
 pub rounded-small : (sums : Sums) → Bounded sums → Small (roundedOf sums)
 unfolding roundedOf correctionOf
 rounded-small sums b =
-    let s : (x : ℤ) → natAbs x ≤ 2 ^ 62 → natAbs (nearest x (2 ^ 30)) ≤ 2 ^ 60 = λ x h. omega (arith, nearest-size x (2 ^ 30) (2 ^ 32) (omega arith) (omega arith)) in
+    let s : (x : ℤ) → natAbs x ≤ 2 ^ 62 → natAbs (nearest x (2 ^ 30)) ≤ 2 ^ 33 = λ x h. omega (arith, nearest-size x (2 ^ 30) (2 ^ 32) (omega arith) (omega arith)) in
     record { c20 = s _ (b .c20); c21 = s _ (b .c21); s21 = s _ (b .s21); c22 = s _ (b .c22); s22 = s _ (b .s22) }
 
 -- the corrections of up to 64 lines
@@ -85,3 +90,34 @@ pub corrections-small : (lines : ℕ → Line) (C S : ℕ → ℤ) (m n : ℕ) �
 unfolding correctionsOf roundedOf sumsOf
 corrections-small lines C S m n hm h light hc hs =
     rounded-small (sumsOf (sumOf lines C S n)) (bounded lines C S m n hm h refl (sum-small lines C S m n light hc hs))
+
+small-read : (z : ℤ) → natAbs z ≤ 2 ^ 33 → read z ≡ z
+small-read z h = toZ-ofZ (fits-abs w64 z (omega (arith, h)))
+
+-- each as the machine reads it, and all as lists
+module _ (d : Corrections) (s : Small d) where
+  pub read-c20 : read (d .c20) ≡ d .c20
+  read-c20 = small-read (d .c20) (s .c20)
+
+  pub read-c21 : read (d .c21) ≡ d .c21
+  read-c21 = small-read (d .c21) (s .c21)
+
+  pub read-s21 : read (d .s21) ≡ d .s21
+  read-s21 = small-read (d .s21) (s .s21)
+
+  pub read-c22 : read (d .c22) ≡ d .c22
+  read-c22 = small-read (d .c22) (s .c22)
+
+  pub read-s22 : read (d .s22) ≡ d .s22
+  read-s22 = small-read (d .s22) (s .s22)
+
+  pub for-c-small : (k : ℕ) → natAbs (getD (forC d) k (pos 0)) ≤ 2 ^ 33
+  for-c-small zero = s .c20
+  for-c-small (suc zero) = s .c21
+  for-c-small (suc (suc zero)) = s .c22
+  for-c-small (suc (suc (suc k))) = omega arith
+
+  pub for-s-small : (k : ℕ) → natAbs (getD (forS d) k (pos 0)) ≤ 2 ^ 33
+  for-s-small zero = s .s21
+  for-s-small (suc zero) = s .s22
+  for-s-small (suc (suc k)) = omega arith

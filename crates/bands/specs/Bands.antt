@@ -1,5 +1,6 @@
 -- Document 01, "Step two (001, Tables 6.2)", and document 02, T-01 and T-02: which amplitude of a line goes with the cosine and which with the sine, and
 -- with which sign; the sums over lines, and the corrections.
+use mathlib.Core.List.{List, [], _∷_}
 use Prim.Native.Nat.{ℕ, _^_}
 use lib.IntN.{ℤ, pos, negℤ, _+ℤ_, _*ℤ_}
 use Rattle.whole.specs.Nearest.{nearest}
@@ -94,3 +95,10 @@ correctionsOf sum = record {
   c22 = correctionOf (sum C22);
   s22 = correctionOf (sum S22);
 }
+
+-- the corrections of C20, C21, C22; of S21, S22
+abbrev pub forC : Corrections → List ℤ
+forC d = d .c20 ∷ d .c21 ∷ d .c22 ∷ []
+
+abbrev pub forS : Corrections → List ℤ
+forS d = d .s21 ∷ d .s22 ∷ []

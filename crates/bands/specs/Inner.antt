@@ -45,8 +45,8 @@ roundedOf sums = record {
 }
 
 pub record Small (d : Corrections) : Type 0 where
-  pub c20 : natAbs (d .c20) ≤ 2 ^ 60
-  pub c21 : natAbs (d .c21) ≤ 2 ^ 60
-  pub s21 : natAbs (d .s21) ≤ 2 ^ 60
-  pub c22 : natAbs (d .c22) ≤ 2 ^ 60
-  pub s22 : natAbs (d .s22) ≤ 2 ^ 60
+  pub c20 : natAbs (d .c20) ≤ 2 ^ 33
+  pub c21 : natAbs (d .c21) ≤ 2 ^ 33
+  pub s21 : natAbs (d .s21) ≤ 2 ^ 33
+  pub c22 : natAbs (d .c22) ≤ 2 ^ 33
+  pub s22 : natAbs (d .s22) ≤ 2 ^ 33

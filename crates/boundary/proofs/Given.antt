@@ -4,6 +4,7 @@ use mathlib.Core.List.{List}
 use mathlib.Core.Path.{_≡_, ap, subst}
 use Prim.Native.Nat.{ℕ}
 use lib.IntN.{ℤ}
+use Rattle.arguments.specs.declared.Phases.{Phases}
 use Rattle.bodies.specs.declared.Body.{Body}
 use Rattle.choices.specs.declared.LoveModel.{LoveModel}
 use Rattle.choices.specs.declared.PermanentSystem.{PermanentSystem}
@@ -16,8 +17,8 @@ use Rattle.leaving.specs.Leaving.{Leaves, GivesAndLeaves}
 use Rattle.refusals.specs.Outcome.{Outcome, GivesValue}
 use Rattle.refusals.specs.Told.{Told, next}
 use Rattle.refusals.specs.Told.Told.{accepted, refused}
-use Rattle.surfgimlet.specs.Calls.{stepOne}
-use Rattle.boundary.specs.Calls.{outcomeOf, stepOneGiven, moveGiven}
+use Rattle.surfgimlet.specs.Calls.{solidTide}
+use Rattle.boundary.specs.Calls.{outcomeOf, solidGiven, moveGiven}
 
 -- a value that is told, left
 pub told-and-left : {A : Type 0} {o : Outcome} {value : A} {told : Told A} {c s : List ℤ} {number : ℕ} {before after : A} → GivesValue o value told c s → Leaves told before number after → GivesAndLeaves o value number c s before after
@@ -35,16 +36,19 @@ module _ {A : Type 0} (c s : List ℤ) (cases : List A) (number : ℕ) (call : A
   pub choice-missing : names (chosen cases number) ≡ false → outcomeOf c s (next (chosen cases number) (λ a. accepted (call a))) ≡ kept c s
   choice-missing e = ap (outcomeOf c s) (one-missing (chosen cases number) (λ a. accepted (call a)) (hundred cases number) e)
 
-module _ (n : ℕ) (c s : List ℤ) (moon sun : GivenBody) (love : ℕ) where
-  pub step-one-named : (m b : Body) (k : LoveModel) → (names (loveModel love) && names (bodyOf moon) && names (bodyOf sun)) ≡ true → Converts (loveModel love) k → Converts (bodyOf moon) m
-      → Converts (bodyOf sun) b → stepOneGiven n c s moon sun love ≡ stepOne n c s m b k
-  unfolding stepOneGiven
-  step-one-named m b k e h i j = ap (outcomeOf c s) (three-named (loveModel love) (bodyOf moon) (bodyOf sun) (λ k m b. accepted (stepOne n c s m b k)) k m b e h i j)
+-- a model and two bodies
+module _ (n : ℕ) (c s : List ℤ) (moon sun : GivenBody) (love : ℕ) (phases : Phases) (selection : ℕ) where
+  pub solid-named : (m b : Body) (k : LoveModel) → (names (loveModel love) && names (bodyOf moon) && names (bodyOf sun)) ≡ true → Converts (loveModel love) k → Converts (bodyOf moon) m
+      → Converts (bodyOf sun) b → solidGiven n c s moon sun love phases selection ≡ solidTide n c s m b k phases selection
+  unfolding solidGiven
+  solid-named m b k e h i j =
+      ap (outcomeOf c s) (three-named (loveModel love) (bodyOf moon) (bodyOf sun) (λ k m b. accepted (solidTide n c s m b k phases selection)) k m b e h i j)
 
-  pub step-one-missing : (names (loveModel love) && names (bodyOf moon) && names (bodyOf sun)) ≡ false → stepOneGiven n c s moon sun love ≡ kept c s
-  unfolding stepOneGiven
-  step-one-missing e =
-      ap (outcomeOf c s) (three-missing (loveModel love) (bodyOf moon) (bodyOf sun) (λ k m b. accepted (stepOne n c s m b k)) (hundred _ love) (hundred _ (moon .kind)) (hundred _ (sun .kind)) e)
+  pub solid-missing : (names (loveModel love) && names (bodyOf moon) && names (bodyOf sun)) ≡ false → solidGiven n c s moon sun love phases selection ≡ kept c s
+  unfolding solidGiven
+  solid-missing e =
+      ap (outcomeOf c s)
+      (three-missing (loveModel love) (bodyOf moon) (bodyOf sun) (λ k m b. accepted (solidTide n c s m b k phases selection)) (hundred _ love) (hundred _ (moon .kind)) (hundred _ (sun .kind)) e)
 
 module _ (c20 : ℤ) (from to love : ℕ) where
   pub move-named : (f t : PermanentSystem) (k : LoveModel) → (names (permanentSystem from) && names (permanentSystem to) && names (loveModel love)) ≡ true → Converts (permanentSystem from) f

@@ -9,7 +9,7 @@ use Rattle.doodson.specs.Doodson.{readDoodson}
 use Rattle.refusals.specs.Outcome.{Outcome}
 use Rattle.leaving.specs.Leaving.{listedOf}
 use Rattle.permanent.specs.Systems.{movedC20}
-use Rattle.surfgimlet.specs.Calls.{stepOne, stepTwo, poleTide, oceanTide}
+use Rattle.surfgimlet.specs.Calls.{solidTide, poleTide, oceanTide}
 use Rattle.crossing.specs.declared.GivenBody.{GivenBody}
 use Rattle.crossing.specs.Choices.{loveModel, frameOf, permanentSystem, bodyOf}
 
@@ -22,12 +22,9 @@ abbrev pub outcomeOf : List ℤ → List ℤ → Told Outcome → Outcome
 outcomeOf c s (accepted outcome) = outcome
 outcomeOf c s (refused number) = record { number = number; c = c; s = s }
 
-unfoldable pub stepOneGiven : ℕ → List ℤ → List ℤ → GivenBody → GivenBody → ℕ → Outcome
-stepOneGiven n c s moon sun love =
-    outcomeOf c s (next (loveModel love) (λ k. next (bodyOf moon) (λ m. next (bodyOf sun) (λ b. accepted (stepOne n c s m b k)))))
-
-unfoldable pub stepTwoGiven : ℕ → List ℤ → List ℤ → Phases → ℕ → ℕ → Outcome
-stepTwoGiven n c s phases love selection = outcomeOf c s (next (loveModel love) (λ k. accepted (stepTwo n c s phases k selection)))
+unfoldable pub solidGiven : ℕ → List ℤ → List ℤ → GivenBody → GivenBody → ℕ → Phases → ℕ → Outcome
+solidGiven n c s moon sun love phases selection =
+    outcomeOf c s (next (loveModel love) (λ k. next (bodyOf moon) (λ m. next (bodyOf sun) (λ b. accepted (solidTide n c s m b k phases selection)))))
 
 unfoldable pub poleGiven : ℕ → List ℤ → List ℤ → ℤ → ℤ → ℕ → Outcome
 poleGiven n c s xp yp love = outcomeOf c s (next (loveModel love) (λ k. accepted (poleTide n c s xp yp k)))

@@ -9,7 +9,7 @@ ghost use Rattle.refusals.specs.Outcome.{Gives};
 ghost use Rattle.surfgimlet.specs.Calls.{ownLines};
 ghost use Rattle.profiles.specs.Profiles.{allLines, majorLines};
 ghost use Rattle.selection.specs.Selection.{linesNamed};
-ghost use Rattle.boundary.specs.Calls.{versionNumber, stepOneGiven, stepTwoGiven, poleGiven, oceanGiven, moveGiven, multipliersGiven};
+ghost use Rattle.boundary.specs.Calls.{versionNumber, solidGiven, poleGiven, oceanGiven, moveGiven, multipliersGiven};
 use arguments::Phases;
 use bodies::Body;
 use choices::Frame;
@@ -20,58 +20,40 @@ use own::OwnLine;
 
 const NO_SUCH_CHOICE: u32 = 100;
 
-const MAJOR: u32 = 2;
+const MAJOR: u32 = 3;
 
-const MINOR: u32 = 1;
+const MINOR: u32 = 0;
 
 const PATCH: u32 = 0;
 
 // The version as one number, which SURFGIMLET_VERSION of the header equals.
 #[no_mangle]
 pub extern "C" fn surfgimlet_version() -> u32
-    ensures { λ r. ⌜ r ≡ versionNumber 2 1 0 ⌝ }
+    ensures { λ r. ⌜ r ≡ versionNumber 3 0 0 ⌝ }
 {
     1000000 * MAJOR + 1000 * MINOR + PATCH
 }
 
-// Solid tide, step one. Refused: 100, then as surfgimlet::step_one.
+// Solid tide. Refused: 100, then as surfgimlet::solid_tide.
 #[no_mangle]
-pub extern "C" fn surfgimlet_step_one(
+pub extern "C" fn surfgimlet_solid_tide(
     n: u32,
     c: &mut [i64],
     s: &mut [i64],
     moon: GivenBody,
     sun: GivenBody,
     love: u32,
+    phases: Phases,
+    selection: u64,
+    lines: &mut u32,
 ) -> u32
-    ensures { λ r. ⌜ Gives (stepOneGiven n (now (c .entry)) (now (s .entry)) moon sun love) r (now (c .exit)) (now (s .exit)) ⌝ }
+    ensures { λ r. ⌜ GivesAndLeaves (solidGiven n (now (c .entry)) (now (s .entry)) moon sun love phases selection) (linesNamed selection) r (now (c .exit)) (now (s .exit)) (now (lines .entry)) (now (lines .exit)) ⌝ }
 {
     if crossing::is_love(love) & crossing::is_body(moon) & crossing::is_body(sun) {
         let moon: Body = crossing::body_of(moon);
         let sun: Body = crossing::body_of(sun);
         let love: LoveModel = crossing::love_of(love);
-        refusals::answer_number(surfgimlet::step_one(n, c, s, moon, sun, love))
-    } else {
-        NO_SUCH_CHOICE
-    }
-}
-
-// Solid tide, step two. Refused: 100, then as surfgimlet::step_two.
-#[no_mangle]
-pub extern "C" fn surfgimlet_step_two(
-    n: u32,
-    c: &mut [i64],
-    s: &mut [i64],
-    phases: Phases,
-    love: u32,
-    selection: u64,
-    lines: &mut u32,
-) -> u32
-    ensures { λ r. ⌜ GivesAndLeaves (stepTwoGiven n (now (c .entry)) (now (s .entry)) phases love selection) (linesNamed selection) r (now (c .exit)) (now (s .exit)) (now (lines .entry)) (now (lines .exit)) ⌝ }
-{
-    if crossing::is_love(love) {
-        let love: LoveModel = crossing::love_of(love);
-        let told = surfgimlet::step_two(n, c, s, phases, love, selection);
+        let told = surfgimlet::solid_tide(n, c, s, moon, sun, love, phases, selection);
         leaving::leave_named(told, lines)
     } else {
         NO_SUCH_CHOICE

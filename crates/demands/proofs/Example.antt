@@ -1,6 +1,7 @@
--- The worked Moon and Sun, four own lines, and a pole, on a field of zeros; step two on a day.
+-- On a field of zeros: four own lines, a pole, and the worked Moon and Sun with all printed lines on a day.
 use mathlib.Core.Path.{_≡_, refl}
 use mathlib.Core.List.{List, [], _∷_}
+use Prim.Native.Nat.{_^_}
 use lib.IntN.{ℤ, pos, negℤ}
 use Rattle.arguments.specs.declared.Phases.{Phases}
 use Rattle.arguments.specs.Phase.{modulo, phase}
@@ -20,32 +21,18 @@ use Rattle.step_one.specs.StepOne.{places}
 use Rattle.pole.specs.declared.Corrections.{Corrections as Pole}
 use Rattle.pole.specs.Pole.{offsetsRefusal, exactC21, exactS21, corrections as poleCorrections}
 use Rattle.profiles.specs.Profiles.{allLines}
-use Rattle.selection.specs.Selection.{names, selected, selectionOf}
+use Rattle.profiles.proofs.Laws.{profiles}
+use Rattle.selection.specs.Selection.{selectionRefusal, names, selected, selectionOf}
+use Rattle.solid.specs.Solid.{plus, ofLines, withLines, solidCounts}
 use Rattle.step_two.specs.StepTwo.{corrections}
 use Rattle.wave.specs.Wave.{sin, cos, further, eighths, signed, part, folded, eighth-sine, eighth-cosine, steps, step, square, angle}
 use Rattle.whole.specs.Nearest.{nearest}
 use Rattle.whole.specs.Sum.{sumTo, allTo}
-use Rattle.surfgimlet.specs.Calls.{stepOneRefusal, stepOne, placesC, placesS, fiveCorrected, ownLinesRefusal, ownLines, poleTideRefusal, poleTide}
+use Rattle.surfgimlet.specs.Calls.{solidTideRefusal, solidTide, placesC, placesS, fiveCorrected, ownLinesRefusal, ownLines, poleTideRefusal, poleTide}
+use Rattle.demands.proofs.InTurn.{stepOneCall, stepTwoCall}
 
 abbrev zeros : List ℤ
 zeros = pos 0 ∷ pos 0 ∷ pos 0 ∷ pos 0 ∷ pos 0 ∷ pos 0 ∷ pos 0 ∷ pos 0 ∷ pos 0 ∷ pos 0 ∷ pos 0 ∷ pos 0 ∷ pos 0 ∷ pos 0 ∷ pos 0 ∷ []
-
-pub on-a-field : stepOne 4 zeros zeros moon sun Anelastic ≡
-    record {
-      number = 0;
-      c =
-          pos 0 ∷ pos 0 ∷ pos 0
-          ∷ pos 812047 ∷ pos 4198242 ∷ pos 2044069
-          ∷ negℤ (pos 12075) ∷ negℤ (pos 10115) ∷ pos 9910 ∷ pos 4077
-          ∷ pos 9990 ∷ negℤ (pos 11250) ∷ negℤ (pos 3896) ∷ pos 0 ∷ pos 0 ∷ [];
-      s =
-          pos 0 ∷ pos 0 ∷ pos 0
-          ∷ pos 0 ∷ negℤ (pos 686843) ∷ pos 3066369
-          ∷ pos 0 ∷ negℤ (pos 5061) ∷ pos 13217 ∷ pos 22539
-          ∷ pos 0 ∷ pos 1896 ∷ negℤ (pos 5790) ∷ pos 0 ∷ pos 0 ∷ [];
-    }
-unfolding stepOne stepOneRefusal firstOf unlessRefused fieldRefusal shapedBy size everyInRange places place addedAt added corrected
-on-a-field = rw (moon-and-sun Anelastic)
 
 -- own lines: one of each band, the diurnal one lent twice, at 0h on 2004-05-17; the second program's counts
 abbrev day : Phases
@@ -118,3 +105,31 @@ pub step-two-on-a-day : (love : LoveModel) → corrections day love allLines ≡
 unfolding modulo phase multipliersIn diurnal longPeriod semidiurnal printed lineAt multipliersAt bandAt inModel printedLine names selected selectionOf allLines ofDiurnal ofLongPeriod ofSemidiurnal ofBand term sumOf correctionOf correctionsOf corrections sin cos further eighths signed part folded eighth-sine eighth-cosine steps step square angle nearest sumTo
 step-two-on-a-day Elastic = refl
 step-two-on-a-day Anelastic = refl
+
+-- the solid tide of both bodies and of all lines at that hour: the second program's counts
+pub solid-tide-on-a-field : solidTide 4 zeros zeros moon sun Anelastic day allLines ≡
+    record {
+      number = 0;
+      c =
+          pos 0 ∷ pos 0 ∷ pos 0
+          ∷ pos 811994 ∷ pos 4625320 ∷ pos 2043282
+          ∷ negℤ (pos 12075) ∷ negℤ (pos 10115) ∷ pos 9910 ∷ pos 4077
+          ∷ pos 9990 ∷ negℤ (pos 11250) ∷ negℤ (pos 3896) ∷ pos 0 ∷ pos 0 ∷ [];
+      s =
+          pos 0 ∷ pos 0 ∷ pos 0
+          ∷ pos 0 ∷ negℤ (pos 353159) ∷ pos 3067065
+          ∷ pos 0 ∷ negℤ (pos 5061) ∷ pos 13217 ∷ pos 22539
+          ∷ pos 0 ∷ pos 1896 ∷ negℤ (pos 5790) ∷ pos 0 ∷ pos 0 ∷ [];
+    }
+unfolding solidTide solidTideRefusal solidCounts withLines ofLines plus selectionRefusal firstOf unlessRefused fieldRefusal shapedBy size everyInRange places place addedAt added corrected
+solid-tide-on-a-field = rw (moon-and-sun Anelastic, step-two-on-a-day Anelastic, profiles .all-accepted)
+
+-- the range is tested once: where step one leaves C21 outside it, the one call is accepted, and of two calls the second was not
+abbrev at-the-end : List ℤ
+at-the-end = pos 0 ∷ pos 0 ∷ pos 0 ∷ pos 0 ∷ pos (2 ^ 60) ∷ pos 0 ∷ pos 0 ∷ pos 0 ∷ pos 0 ∷ pos 0 ∷ pos 0 ∷ pos 0 ∷ pos 0 ∷ pos 0 ∷ pos 0 ∷ []
+
+pub range-tested-once :
+    (solidTide 4 at-the-end zeros moon sun Anelastic day allLines .number ≡ 0)
+    × (let one = stepOneCall 4 at-the-end zeros moon sun Anelastic in (one .number ≡ 0) × (stepTwoCall 4 (one .c) (one .s) day Anelastic allLines .number ≡ 2))
+unfolding stepOneCall stepTwoCall fiveCorrected solidTide solidTideRefusal selectionRefusal firstOf unlessRefused fieldRefusal shapedBy size everyInRange places place addedAt added corrected
+range-tested-once = rw (moon-and-sun Anelastic, profiles .all-accepted) (refl, (refl, refl))

@@ -1,44 +1,41 @@
--- Each entry after step two, or after own lines, where nothing is refused: five moved by their corrections, every other as before.
-use mathlib.Core.Path.{_≡_, ap, subst, _∙_}
+-- Each entry after own lines, where nothing is refused: five moved by their corrections, every other as before.
+use mathlib.Core.Path.{_≡_, ap, _∙_}
 use mathlib.Core.List.{List}
 use mathlib.Core.Logic.{_⊎_, inl, inr}
-use Prim.Native.Nat.{ℕ, zero, suc, _≤_, _<_}
+use Prim.Native.Nat.{ℕ, _≤_, _<_}
 use native.Mathlib.Omega.{arith}
-use lib.IntN.{ℤ, pos, _+ℤ_, +ℤ-idr}
+use lib.IntN.{ℤ, _+ℤ_}
 use lib.ListN.{length, getD}
 use Rattle.arguments.specs.declared.Phases.{Phases}
 use Rattle.bands.specs.declared.Corrections.{Corrections}
-use Rattle.choices.specs.declared.LoveModel.{LoveModel}
+use Rattle.bands.specs.Bands.{forC, forS}
 use Rattle.field.specs.Added.{addedAt}
 use Rattle.field.specs.Field.{place, fieldRefusal}
 use Rattle.field.proofs.Accepted.{accepted-field, degree-two}
 use Rattle.field.proofs.Added.{at-here, at-elsewhere, at-rises}
 use Rattle.own.specs.declared.OwnLine.{OwnLine}
 use Rattle.own.specs.Own.{recordsRefusal, ownCorrections}
-use Rattle.refusals.specs.Outcome.{Outcome, unlessRefused}
-use Rattle.refusals.proofs.Outcomes.{first-none, first-passed}
-use Rattle.selection.specs.Selection.{selectionRefusal}
-use Rattle.step_two.specs.StepTwo.{corrections}
-use Rattle.step_two.proofs.Unused.{no-lines}
-use Rattle.surfgimlet.specs.Calls.{forC, forS, placesC, placesS, fiveCorrected, stepTwoRefusal, stepTwo, ownLinesRefusal, ownLines}
+use Rattle.refusals.specs.Outcome.{unlessRefused}
+use Rattle.refusals.proofs.Outcomes.{first-none}
+use Rattle.surfgimlet.specs.Calls.{placesC, placesS, fiveCorrected, ownLinesRefusal, ownLines}
 use Rattle.surfgimlet.proofs.Five.{c-run, s-run}
 use Rattle.demands.specs.Demands.{at, FiveEntries}
 
 module _ (l : List ℤ) (d : Corrections) where
-  c-entry : 5 < length l → (j : ℕ) → j < length placesC → at (addedAt placesC (forC d) l) (getD placesC j 0) ≡ at l (getD placesC j 0) +ℤ at (forC d) j
+  pub c-entry : 5 < length l → (j : ℕ) → j < length placesC → at (addedAt placesC (forC d) l) (getD placesC j 0) ≡ at l (getD placesC j 0) +ℤ at (forC d) j
   unfolding placesC
   c-entry long j h = at-here placesC (forC d) l (at-rises placesC (forC d) l 3 c-run) j h (omega (arith, c-run j h))
 
-  s-entry : 5 < length l → (j : ℕ) → j < length placesS → at (addedAt placesS (forS d) l) (getD placesS j 0) ≡ at l (getD placesS j 0) +ℤ at (forS d) j
+  pub s-entry : 5 < length l → (j : ℕ) → j < length placesS → at (addedAt placesS (forS d) l) (getD placesS j 0) ≡ at l (getD placesS j 0) +ℤ at (forS d) j
   unfolding placesS
   s-entry long j h = at-here placesS (forS d) l (at-rises placesS (forS d) l 4 s-run) j h (omega (arith, s-run j h))
 
-  c-other : (k : ℕ) → (k < 3) ⊎ (6 ≤ k) → at (addedAt placesC (forC d) l) k ≡ at l k
+  pub c-other : (k : ℕ) → (k < 3) ⊎ (6 ≤ k) → at (addedAt placesC (forC d) l) k ≡ at l k
   unfolding placesC
   c-other k (inl h) = at-elsewhere placesC (forC d) l k (λ j b e. omega (arith, c-run j b))
   c-other k (inr h) = at-elsewhere placesC (forC d) l k (λ j b e. omega (arith, c-run j b))
 
-  s-other : (k : ℕ) → (k < 4) ⊎ (6 ≤ k) → at (addedAt placesS (forS d) l) k ≡ at l k
+  pub s-other : (k : ℕ) → (k < 4) ⊎ (6 ≤ k) → at (addedAt placesS (forS d) l) k ≡ at l k
   unfolding placesS
   s-other k (inl h) = at-elsewhere placesS (forS d) l k (λ j b e. omega (arith, s-run j b))
   s-other k (inr h) = at-elsewhere placesS (forS d) l k (λ j b e. omega (arith, s-run j b))
@@ -62,11 +59,13 @@ module _ (number : ℕ) (c s : List ℤ) (d : Corrections) (passed : number ≡ 
       let in-c = c-entry c d long-c in
       let in-s = s-entry s d long-s in
       record {
-        c20 = read c-is _ ∙ in-c 0 (omega arith);
-        c21 = read c-is _ ∙ in-c 1 (omega arith);
-        s21 = read s-is _ ∙ in-s 0 (omega arith);
-        c22 = read c-is _ ∙ in-c 2 (omega arith);
-        s22 = read s-is _ ∙ in-s 1 (omega arith);
+        five = record {
+          c20 = read c-is _ ∙ in-c 0 (omega arith);
+          c21 = read c-is _ ∙ in-c 1 (omega arith);
+          s21 = read s-is _ ∙ in-s 0 (omega arith);
+          c22 = read c-is _ ∙ in-c 2 (omega arith);
+          s22 = read s-is _ ∙ in-s 1 (omega arith);
+        };
         c-elsewhere = λ k h. read c-is k ∙ c-other c d k h;
         s-elsewhere = λ k h. read s-is k ∙ s-other s d k h;
       }
@@ -76,46 +75,6 @@ on-field : (n number : ℕ) (c s : List ℤ) (d : Corrections) → fieldRefusal 
 on-field n number c s d field passed =
     let a = accepted-field n c s field in
     entries number c s d passed (degree-two n c (a .least) (a .c-size)) (degree-two n s (a .least) (a .s-size))
-
-pub step-two : (n : ℕ) (c s : List ℤ) (phases : Phases) (love : LoveModel) (selection : ℕ) → stepTwoRefusal n c s selection ≡ 0
-    → FiveEntries c s (stepTwo n c s phases love selection) (corrections phases love selection)
-unfolding stepTwo stepTwoRefusal
-step-two n c s phases love selection passed = on-field n _ c s (corrections phases love selection) (first-none _ _ passed .0) passed
-
--- no line named: every entry keeps its value
-module _ (n : ℕ) (c s : List ℤ) (phases : Phases) (love : LoveModel) (field : fieldRefusal n c s ≡ 0) where
-  abbrev none : Outcome
-  none = stepTwo n c s phases love 0
-
-  accepted-none : stepTwoRefusal n c s 0 ≡ 0
-  unfolding stepTwoRefusal selectionRefusal
-  accepted-none = first-passed _ _ field
-
-  nothing-added : FiveEntries c s none (record { c20 = pos 0; c21 = pos 0; s21 = pos 0; c22 = pos 0; s22 = pos 0 })
-  nothing-added = subst (FiveEntries c s none) (no-lines phases love) (step-two n c s phases love 0 accepted-none)
-
-  in-c : (k : ℕ) → at (none .c) k ≡ at c k
-  unfolding place
-  in-c zero = nothing-added .c-elsewhere 0 (inl (omega arith))
-  in-c (suc zero) = nothing-added .c-elsewhere 1 (inl (omega arith))
-  in-c (suc (suc zero)) = nothing-added .c-elsewhere 2 (inl (omega arith))
-  in-c (suc (suc (suc zero))) = nothing-added .c20 ∙ +ℤ-idr (at c 3)
-  in-c (suc (suc (suc (suc zero)))) = nothing-added .c21 ∙ +ℤ-idr (at c 4)
-  in-c (suc (suc (suc (suc (suc zero))))) = nothing-added .c22 ∙ +ℤ-idr (at c 5)
-  in-c (suc (suc (suc (suc (suc (suc k)))))) = nothing-added .c-elsewhere _ (inr (omega arith))
-
-  in-s : (k : ℕ) → at (none .s) k ≡ at s k
-  unfolding place
-  in-s zero = nothing-added .s-elsewhere 0 (inl (omega arith))
-  in-s (suc zero) = nothing-added .s-elsewhere 1 (inl (omega arith))
-  in-s (suc (suc zero)) = nothing-added .s-elsewhere 2 (inl (omega arith))
-  in-s (suc (suc (suc zero))) = nothing-added .s-elsewhere 3 (inl (omega arith))
-  in-s (suc (suc (suc (suc zero)))) = nothing-added .s21 ∙ +ℤ-idr (at s 4)
-  in-s (suc (suc (suc (suc (suc zero))))) = nothing-added .s22 ∙ +ℤ-idr (at s 5)
-  in-s (suc (suc (suc (suc (suc (suc k)))))) = nothing-added .s-elsewhere _ (inr (omega arith))
-
-  pub none-named : (k : ℕ) → (at (none .c) k ≡ at c k) × (at (none .s) k ≡ at s k)
-  none-named k = (in-c k, in-s k)
 
 -- of an accepted call the list is accepted
 pub own-passed : (n : ℕ) (c s : List ℤ) (lines : List OwnLine) → ownLinesRefusal n c s lines ≡ 0 → recordsRefusal lines ≡ 0

@@ -1,5 +1,6 @@
-pub mod StepOne
 pub mod Five
+pub mod Solid
+pub mod InTurn
 pub mod Ocean
 pub mod Pole
 pub mod Close

@@ -1,4 +1,4 @@
--- The calls without a field are refused exactly when the table says: 2 of a C20 to move, 10 and 11 of a Doodson number. And 14 of step two, 15 of the pole tide.
+-- The calls without a field are refused exactly when the table says: 2 of a C20 to move, 10 and 11 of a Doodson number. And 3 to 6 and 14 of the solid tide, 15 of the pole tide.
 use borrow.Author.Tests.{leb-true, leb-false, le-leb, lt-leb, eq-eqb, ne-eqb}
 use mathlib.Core.Bool.{Bool, true, false, cond, _&&_}
 use mathlib.Core.List.{List, [], _∷_}
@@ -10,6 +10,7 @@ use lib.Dec.{T, eqb}
 use lib.IntN.{ℤ, natAbs}
 use lib.ListN.{length, getD}
 use Rattle.arguments.specs.declared.Multipliers.{Multipliers}
+use Rattle.bodies.specs.declared.Body.{Body}
 use Rattle.choices.specs.declared.LoveModel.{LoveModel}
 use Rattle.choices.specs.declared.PermanentSystem.{PermanentSystem}
 use Rattle.doodson.specs.Doodson.{writable, readDoodson, writeDoodson}
@@ -25,7 +26,9 @@ use Rattle.refusals.specs.Outcome.{firstOf}
 use Rattle.refusals.proofs.Outcomes.{first-kept, first-passed}
 use Rattle.selection.specs.Selection.{names, selectionRefusal}
 use Rattle.selection.proofs.Laws.{no-bit-above}
-use Rattle.surfgimlet.specs.Calls.{stepTwoRefusal, poleTideRefusal}
+use Rattle.step_one.specs.StepOne.{corrections}
+use Rattle.step_one.proofs.Table.{at-most-six}
+use Rattle.surfgimlet.specs.Calls.{solidTideRefusal, poleTideRefusal}
 
 clash : {X : Type 0} → true ≡ false → X
 clash e = absurd (subst T e tt)
@@ -102,7 +105,20 @@ module _ (number : ℕ) where
       by-test true t e = (leb-true _ _ t, not-found 0 printed e)
       by-test false t e = absurd (let z = ap toldNumber e in omega (arith, z))
 
--- a number that one test answers, after the field's
+-- a test that answers k, or 0 where A is so
+one-test : {A : Type 0} (b : Bool) (k : ℕ) → 0 < k → _≡_ {A = ℕ} (cond b 0 k) 0 ↔ A → cond b 0 k ≡ k ↔ (A → ⊥)
+one-test true k some t = (λ e. absurd (omega (arith, e)), λ q. absurd (q (t .0 refl)))
+one-test false k some t = (λ e a. omega (arith, t .1 a), λ q. refl)
+
+-- of two refusals in their order, a number that the first never answers is the second's, and one that the second never answers is the first's
+second-answers : (f g k : ℕ) → (f ≡ k → ⊥) → firstOf f g ≡ k ↔ ((f ≡ 0) × (g ≡ k))
+second-answers zero g k other = (λ e. (refl, sym (first-passed 0 g refl) ∙ e), λ q. first-passed 0 g refl ∙ q .1)
+second-answers (suc f) g k other = (λ e. absurd (other (sym (first-kept (suc f) g (λ z. omega arith)) ∙ e)), λ q. absurd (omega (arith, q .0)))
+
+first-answers : (f g k : ℕ) → 0 < k → (g ≡ k → ⊥) → firstOf f g ≡ k ↔ (f ≡ k)
+first-answers zero g k some other = (λ e. absurd (other (sym (first-passed 0 g refl) ∙ e)), λ z. absurd (omega (arith, z)))
+first-answers (suc f) g k some other = let kept = first-kept (suc f) g (λ z. omega arith) in (λ e. sym kept ∙ e, λ e. kept ∙ e)
+
 module _ (n : ℕ) (c s : List ℤ) where
   field-most : fieldRefusal n c s ≤ 2
   unfolding fieldRefusal
@@ -113,20 +129,51 @@ module _ (n : ℕ) (c s : List ℤ) where
       by true false = omega arith
       by false b = omega arith
 
-  after-the-field : {A : Type 0} (b : Bool) (k : ℕ) → 2 < k → _≡_ {A = ℕ} (cond b 0 k) 0 ↔ A → firstOf (fieldRefusal n c s) (cond b 0 k) ≡ k ↔ ((fieldRefusal n c s ≡ 0) × (A → ⊥))
-  after-the-field {A} b k after t = by (fieldRefusal n c s) field-most b t
-    where
-      by : (f : ℕ) → f ≤ 2 → (b : Bool) → _≡_ {A = ℕ} (cond b 0 k) 0 ↔ A → firstOf f (cond b 0 k) ≡ k ↔ ((f ≡ 0) × (A → ⊥))
-      by zero h true t = (λ e. absurd (let z : 0 ≡ k = sym (first-passed 0 0 refl) ∙ e in omega (arith, z)), λ q. absurd (q .1 (t .0 refl)))
-      by zero h false t = (λ e. (refl, λ a. omega (arith, t .1 a)), λ q. first-passed 0 k refl)
-      by (suc f) h b t = (λ e. absurd (let z : suc f ≡ k = sym (first-kept (suc f) (cond b 0 k) (λ q. omega arith)) ∙ e in omega (arith, z)), λ q. absurd (omega arith))
+  after-the-field : (g k : ℕ) → 2 < k → firstOf (fieldRefusal n c s) g ≡ k ↔ ((fieldRefusal n c s ≡ 0) × (g ≡ k))
+  after-the-field g k after = second-answers (fieldRefusal n c s) g k (λ e. omega (arith, field-most, e))
 
-  -- 14: "for a bit above 48, after 2"
-  pub fourteen-of-step-two : (selection : ℕ) → stepTwoRefusal n c s selection ≡ 14 ↔ ((fieldRefusal n c s ≡ 0) × (((i : ℕ) → 49 ≤ i → names selection i ≡ false) → ⊥))
-  unfolding stepTwoRefusal selectionRefusal
-  fourteen-of-step-two selection = after-the-field (isSelection selection) 14 (omega arith) (no-bit-above selection)
+  -- "1, 2, 14, then the Moon's 3, 4, 5, the Sun's, and 6"
+  module _ (moon sun : Body) (love : LoveModel) (selection : ℕ) where
+    abbrev NoBitAbove : Type 0
+    NoBitAbove = (i : ℕ) → 49 ≤ i → names selection i ≡ false
+
+    selection-fourteen : selectionRefusal selection ≡ 14 ↔ (NoBitAbove → ⊥)
+    unfolding selectionRefusal
+    selection-fourteen = one-test (isSelection selection) 14 (omega arith) (no-bit-above selection)
+
+    selection-other : (k : ℕ) → 0 < k → k < 14 → selectionRefusal selection ≡ k → ⊥
+    unfolding selectionRefusal
+    selection-other k some few = by (isSelection selection)
+      where
+        by : (b : Bool) → cond b 0 14 ≡ k → ⊥
+        by true e = omega (arith, e)
+        by false e = omega (arith, e)
+
+    -- 14: a bit above 48, where the field passes
+    pub fourteen-of-the-solid-tide : solidTideRefusal n c s moon sun love selection ≡ 14 ↔ ((fieldRefusal n c s ≡ 0) × (NoBitAbove → ⊥))
+    unfolding solidTideRefusal
+    fourteen-of-the-solid-tide =
+        let bodies = toldNumber (corrections moon sun love) in
+        let outer = after-the-field (firstOf (selectionRefusal selection) bodies) 14 (omega arith) in
+        let inner = first-answers (selectionRefusal selection) bodies 14 (omega arith) (λ e. omega (arith, at-most-six moon sun love, e)) in
+        (λ e. let q = outer .0 e in (q .0, selection-fourteen .0 (inner .0 (q .1))), λ q. outer .1 (q .0, inner .1 (selection-fourteen .1 (q .1))))
+
+    -- 3, 4, 5 and 6: the bodies', where field and selection pass (`Rattle.step_one.proofs.Table.step-one-table` says when)
+    pub bodies-of-the-solid-tide : (k : ℕ) → 2 < k → k < 14
+        → solidTideRefusal n c s moon sun love selection ≡ k ↔ ((fieldRefusal n c s ≡ 0) × NoBitAbove × (toldNumber (corrections moon sun love) ≡ k))
+    unfolding solidTideRefusal
+    bodies-of-the-solid-tide k low high =
+        let bodies = toldNumber (corrections moon sun love) in
+        let outer = after-the-field (firstOf (selectionRefusal selection) bodies) k low in
+        let inner = second-answers (selectionRefusal selection) bodies k (selection-other k (omega arith) high) in (
+          λ e. let q = outer .0 e in let r = inner .0 (q .1) in (q .0, no-bit-above selection .0 (r .0), r .1),
+          λ q. outer .1 (q .0, inner .1 (no-bit-above selection .1 (q .1), q .2)),
+        )
 
   -- 15: "for an offset out of range, after 2"
   pub fifteen-of-the-pole-tide : (xp yp : ℤ) → poleTideRefusal n c s xp yp ≡ 15 ↔ ((fieldRefusal n c s ≡ 0) × ((natAbs xp ≤ 1000000) × (natAbs yp ≤ 1000000) → ⊥))
   unfolding poleTideRefusal offsetsRefusal
-  fifteen-of-the-pole-tide xp yp = after-the-field (isPoleOffset xp && isPoleOffset yp) 15 (omega arith) (within-an-arcsecond xp yp)
+  fifteen-of-the-pole-tide xp yp =
+      let outer = after-the-field (offsetsRefusal xp yp) 15 (omega arith) in
+      let beyond = one-test (isPoleOffset xp && isPoleOffset yp) 15 (omega arith) (within-an-arcsecond xp yp) in
+      (λ e. let q = outer .0 e in (q .0, beyond .0 (q .1)), λ q. outer .1 (q .0, beyond .1 (q .1)))

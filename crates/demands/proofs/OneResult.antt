@@ -25,7 +25,7 @@ use Rattle.selection.specs.declared.Named.{Named}
 use Rattle.selection.specs.declared.Named.the-variants as named
 use Rattle.selection.specs.Selection.{tells as tellsNamed}
 
--- ---- step one, own lines, the pole tide and the ocean tide: the answer and both lists
+-- ---- own lines, the pole tide and the ocean tide: the answer and both lists
 pub one-outcome : (o : Outcome) (a b : Answer) (c c′ s s′ : List ℤ) → Gives o (answerNumber a) c s → Gives o (answerNumber b) c′ s′ → (a ≡ b) × (c ≡ c′) × (s ≡ s′)
 one-outcome o a b c c′ s s′ g h =
     (same-answer a b (g .answer ∙ sym (h .answer)), g .list-c ∙ sym (h .list-c), g .list-s ∙ sym (h .list-s))
@@ -82,7 +82,7 @@ sought-again (sought.Refused r) = ap sought.Refused (refusal-again r)
 pub one-sought : (r q : Sought) → tellsSought r ≡ tellsSought q → r ≡ q
 one-sought = known tellsSought sought-of sought-again
 
--- ---- step two: the answer with its count, and both lists
+-- ---- the solid tide: the answer with its count, and both lists
 named-of : Told ℕ → Named
 named-of (accepted lines) = named.Lines lines
 named-of (refused number) = named.Refused (refusal-of number)

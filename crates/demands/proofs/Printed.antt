@@ -17,10 +17,10 @@ use Rattle.own.specs.declared.OwnLine.{OwnLine}
 use Rattle.own.specs.Own.{multipliersOf, bandOf, lineOf, inRange, recordAt, recordsRefusal, ownPhase, ownSum, ownCorrections}
 use Rattle.refusals.proofs.Outcomes.{first-alone}
 use Rattle.profiles.specs.Profiles.{allLines}
-use Rattle.profiles.proofs.Laws.{all-selected, profiles}
+use Rattle.profiles.proofs.Laws.{all-selected}
 use Rattle.selection.specs.Selection.{selected}
 use Rattle.step_two.specs.StepTwo.{printedSum, selectedSum, corrections}
-use Rattle.surfgimlet.specs.Calls.{stepTwoRefusal, stepTwo, ownLinesRefusal, ownLines}
+use Rattle.surfgimlet.specs.Calls.{fiveCorrected, ownLinesRefusal, ownLines}
 use Rattle.wave.specs.Wave.{sin, cos}
 use Rattle.whole.proofs.Sums.{sum-same}
 use Rattle.whole.specs.Sum.{allTo}
@@ -90,7 +90,7 @@ taken : recordsRefusal printedAsOwn ≡ 0
 unfolding recordsRefusal allTo inRange printedAsOwn multipliersIn diurnal longPeriod semidiurnal
 taken = refl
 
--- any field, any phases: the same number and the same lists afterwards
-pub one-rule : (n : ℕ) (c s : List ℤ) (phases : Phases) → ownLines n c s printedAsOwn phases ≡ stepTwo n c s phases Anelastic allLines
-unfolding ownLines ownLinesRefusal stepTwo stepTwoRefusal
-one-rule n c s phases = rw (taken, profiles .all-accepted, first-alone (fieldRefusal n c s), same-corrections phases) refl
+-- any field, any phases: the number is the field's, and the five corrections are step two's
+pub one-rule : (n : ℕ) (c s : List ℤ) (phases : Phases) → ownLines n c s printedAsOwn phases ≡ fiveCorrected (fieldRefusal n c s) c s (corrections phases Anelastic allLines)
+unfolding ownLines ownLinesRefusal
+one-rule n c s phases = rw (taken, first-alone (fieldRefusal n c s), same-corrections phases) refl

@@ -7,9 +7,9 @@ use Rattle.field.specs.Field.{place}
 use Rattle.permanent.proofs.RoundTrip.{there-and-back}
 use Rattle.refusals.specs.Outcome.{unlessRefused}
 use Rattle.refusals.proofs.Outcomes.{outcome-number, refused-untouched}
-use Rattle.surfgimlet.specs.Calls.{stepOne, fiveCorrected, stepTwo, ownLines, poleTide, oceanTide}
+use Rattle.surfgimlet.specs.Calls.{solidTide, fiveCorrected, ownLines, poleTide, oceanTide}
 use Rattle.demands.specs.Demands.{Refuses, First, Second, Third, Demands}
-use Rattle.demands.proofs.StepOne.{ten-places, others-kept, order-zero-kept}
+use Rattle.demands.proofs.Solid as solid
 use Rattle.demands.proofs.Five as five
 use Rattle.demands.proofs.Ocean.{c-here, s-here, c-elsewhere, s-elsewhere, s-zonal}
 use Rattle.demands.proofs.Pole as pole
@@ -23,10 +23,9 @@ refuses number c s c′ s′ = record {
 }
 
 pub first : First
-unfolding stepOne fiveCorrected stepTwo ownLines poleTide oceanTide
+unfolding solidTide fiveCorrected ownLines poleTide oceanTide
 first = record {
-  step-one = λ n c s moon sun love. refuses _ c s _ _;
-  step-two = λ n c s phases love selection. refuses _ c s _ _;
+  solid-tide = λ n c s moon sun love phases selection. refuses _ c s _ _;
   own-lines = λ n c s lines phases. refuses _ c s _ _;
   pole-tide = λ n c s xp yp love. refuses _ c s _ _;
   ocean-tide = λ n c s sheet phases frame. refuses _ c s _ _;
@@ -35,8 +34,7 @@ first = record {
 pub second : Second
 unfolding place
 second = record {
-  step-one = λ n c s moon sun love. record { here = ten-places n c s moon sun love; elsewhere = others-kept n c s moon sun love; order-zero = order-zero-kept n c s moon sun love };
-  step-two = five.step-two;
+  solid-tide = solid.solid-tide;
   own-lines = five.own-lines;
   pole-tide = pole.pole-tide;
   ocean-tide = λ n c s sheet phases frame e. record {
@@ -52,7 +50,7 @@ second = record {
 }
 
 pub third : Third
-third = record { step-two = close.step-two; own-lines = close.own-lines; pole-tide = close.pole-tide; ocean-tide = close.ocean-tide }
+third = record { solid-tide = close.solid-tide; own-lines = close.own-lines; pole-tide = close.pole-tide; ocean-tide = close.ocean-tide }
 
 pub demands : Demands
 demands = record { first = first; second = second; third = third }

@@ -15,7 +15,7 @@ use Rattle.choices.specs.declared.Frame.{Frame}
 use Rattle.choices.specs.declared.LoveModel.{LoveModel}
 use Rattle.choices.specs.declared.PermanentSystem.{PermanentSystem}
 use Rattle.doodson.specs.Doodson.{readDoodson, writeDoodson}
-use Rattle.field.specs.Field.{place, fieldRefusal}
+use Rattle.field.specs.Field.{place}
 use Rattle.ocean.specs.Ocean.{dC, dS}
 use Rattle.ocean_bound.specs.Exact.{atMostNineCounts, exactSum as oceanSum}
 use Rattle.own.specs.declared.OwnLine.{OwnLine}
@@ -27,10 +27,11 @@ use Rattle.pole.specs.Pole.{exactC21, exactS21, corrections as poleCorrections,
 use Rattle.refusals.specs.Outcome.{Outcome}
 use Rattle.refusals.specs.Told.Told.{accepted}
 use Rattle.sheet.specs.Sheet.{placeCount, cCos, sCos, cSin, sSin}
+use Rattle.solid.specs.Solid.{countsOf}
 use Rattle.step_one.specs.StepOne.{Counts, places, corrections as bodyCorrections}
 use Rattle.step_two.specs.StepTwo.{corrections as lineCorrections}
 use Rattle.step_two_bound.specs.Exact.{lessThanOneCount, exactSum as lineSum}
-use Rattle.surfgimlet.specs.Calls.{stepOneRefusal, stepOne, stepTwoRefusal, stepTwo, ownLinesRefusal, ownLines, poleTideRefusal, poleTide, oceanRefusal, oceanTide}
+use Rattle.surfgimlet.specs.Calls.{solidTideRefusal, solidTide, ownLinesRefusal, ownLines, poleTideRefusal, poleTide, oceanRefusal, oceanTide}
 
 -- the entry at k
 abbrev pub at : List ℤ → ℕ → ℤ
@@ -47,29 +48,47 @@ pub record Refuses (o : Outcome) (number : ℕ) (c s : List ℤ) : Type 0 where
   pub kept-s : (number ≡ 0 → ⊥) → o .s ≡ s
 
 pub record First : Type 0 where
-  pub step-one : (n : ℕ) (c s : List ℤ) (moon sun : Body) (love : LoveModel) → Refuses (stepOne n c s moon sun love) (stepOneRefusal n c s moon sun love) c s
-  pub step-two : (n : ℕ) (c s : List ℤ) (phases : Phases) (love : LoveModel) (selection : ℕ) → Refuses (stepTwo n c s phases love selection) (stepTwoRefusal n c s selection) c s
+  pub solid-tide : (n : ℕ) (c s : List ℤ) (moon sun : Body) (love : LoveModel) (phases : Phases) (selection : ℕ)
+      → Refuses (solidTide n c s moon sun love phases selection) (solidTideRefusal n c s moon sun love selection) c s
   pub own-lines : (n : ℕ) (c s : List ℤ) (lines : List OwnLine) (phases : Phases) → Refuses (ownLines n c s lines phases) (ownLinesRefusal n c s lines) c s
   pub pole-tide : (n : ℕ) (c s : List ℤ) (xp yp : ℤ) (love : LoveModel) → Refuses (poleTide n c s xp yp love) (poleTideRefusal n c s xp yp) c s
   pub ocean-tide : (n : ℕ) (c s : List ℤ) (sheet : List ℕ) (phases : Phases) (frame : Frame) → Refuses (oceanTide n c s sheet phases frame) (oceanRefusal n c s sheet) c s
 
 -- "The solid-tide corrections follow Chapter 6 .., and the ocean ones the synthesis rule ..": each entry that a rule names gains its correction.
 -- "Coefficients a rule does not name keep their values."
-pub record StepOneEntries (n : ℕ) (c s : List ℤ) (moon sun : Body) (love : LoveModel) : Type 0 where
-  pub here : fieldRefusal n c s ≡ 0 → (k : Counts) → bodyCorrections moon sun love ≡ accepted k → (j : ℕ) → j < 10
-      → (at (stepOne n c s moon sun love .c) (getD places j 0) ≡ at c (getD places j 0) +ℤ at (k .c) j)
-      × (at (stepOne n c s moon sun love .s) (getD places j 0) ≡ at s (getD places j 0) +ℤ at (k .s) j)
-  pub elsewhere : (k : ℕ) → (k < place 2 0) ⊎ (place 4 3 ≤ k)
-      → (at (stepOne n c s moon sun love .c) k ≡ at c k) × (at (stepOne n c s moon sun love .s) k ≡ at s k)
-  pub order-zero : (d : ℕ) → at (stepOne n c s moon sun love .s) (place d 0) ≡ at s (place d 0)
-
--- five entries gain their corrections, of step two or of own lines
-pub record FiveEntries (c s : List ℤ) (o : Outcome) (d : Corrections) : Type 0 where
+-- five entries of degree two
+pub record FiveGain (c s : List ℤ) (o : Outcome) (d : Corrections) : Type 0 where
   pub c20 : at (o .c) (place 2 0) ≡ at c (place 2 0) +ℤ d .c20
   pub c21 : at (o .c) (place 2 1) ≡ at c (place 2 1) +ℤ d .c21
   pub s21 : at (o .s) (place 2 1) ≡ at s (place 2 1) +ℤ d .s21
   pub c22 : at (o .c) (place 2 2) ≡ at c (place 2 2) +ℤ d .c22
   pub s22 : at (o .s) (place 2 2) ≡ at s (place 2 2) +ℤ d .s22
+
+-- step one's correction of each of them, by its counts
+abbrev pub ofBodies : Counts → Corrections
+ofBodies one = record { c20 = at (one .c) 0; c21 = at (one .c) 1; s21 = at (one .s) 1; c22 = at (one .c) 2; s22 = at (one .s) 2 }
+
+-- T-06: "The correction is the sum of the two"
+abbrev pub both : Corrections → Corrections → Corrections
+both one two = record {
+  c20 = one .c20 +ℤ two .c20;
+  c21 = one .c21 +ℤ two .c21;
+  s21 = one .s21 +ℤ two .s21;
+  c22 = one .c22 +ℤ two .c22;
+  s22 = one .s22 +ℤ two .s22;
+}
+
+-- C20, C21, S21, C22 and S22 from both steps, degree 3 and 4 from step one alone
+pub record SolidEntries (c s : List ℤ) (o : Outcome) (one : Counts) (two : Corrections) : Type 0 where
+  pub degree-two : FiveGain c s o (both (ofBodies one) two)
+  pub beyond : (j : ℕ) → 3 ≤ j → j < 10
+      → (at (o .c) (getD places j 0) ≡ at c (getD places j 0) +ℤ at (one .c) j) × (at (o .s) (getD places j 0) ≡ at s (getD places j 0) +ℤ at (one .s) j)
+  pub elsewhere : (k : ℕ) → (k < place 2 0) ⊎ (place 4 3 ≤ k) → (at (o .c) k ≡ at c k) × (at (o .s) k ≡ at s k)
+  pub order-zero : (d : ℕ) → at (o .s) (place d 0) ≡ at s (place d 0)
+
+-- own lines
+pub record FiveEntries (c s : List ℤ) (o : Outcome) (d : Corrections) : Type 0 where
+  pub five : FiveGain c s o d
   pub c-elsewhere : (k : ℕ) → (k < place 2 0) ⊎ (place 3 0 ≤ k) → at (o .c) k ≡ at c k
   pub s-elsewhere : (k : ℕ) → (k < place 2 1) ⊎ (place 3 0 ≤ k) → at (o .s) k ≡ at s k
 
@@ -89,9 +108,8 @@ pub record OceanEntries (n : ℕ) (c s : List ℤ) (sheet : List ℕ) (phases : 
   pub order-zero : (d : ℕ) → d ≤ n → at (oceanTide n c s sheet phases frame .s) (place d 0) ≡ at s (place d 0)
 
 pub record Second : Type 0 where
-  pub step-one : (n : ℕ) (c s : List ℤ) (moon sun : Body) (love : LoveModel) → StepOneEntries n c s moon sun love
-  pub step-two : (n : ℕ) (c s : List ℤ) (phases : Phases) (love : LoveModel) (selection : ℕ) → stepTwoRefusal n c s selection ≡ 0
-      → FiveEntries c s (stepTwo n c s phases love selection) (lineCorrections phases love selection)
+  pub solid-tide : (n : ℕ) (c s : List ℤ) (moon sun : Body) (love : LoveModel) (phases : Phases) (selection : ℕ) → solidTideRefusal n c s moon sun love selection ≡ 0
+      → SolidEntries c s (solidTide n c s moon sun love phases selection) (countsOf (bodyCorrections moon sun love)) (lineCorrections phases love selection)
   pub own-lines : (n : ℕ) (c s : List ℤ) (lines : List OwnLine) (phases : Phases) → ownLinesRefusal n c s lines ≡ 0
       → FiveEntries c s (ownLines n c s lines phases) (ownCorrections phases lines)
   pub pole-tide : (n : ℕ) (c s : List ℤ) (xp yp : ℤ) (love : LoveModel) → poleTideRefusal n c s xp yp ≡ 0 → PoleEntries n c s xp yp love
@@ -104,12 +122,20 @@ pub record Second : Type 0 where
 
 -- "For any six phases, and any sheet and field that are accepted, each ocean correction is at most nine counts from the exact sum, and each second-step solid
 -- correction less than one count", of what each entry gained
-pub record FiveClose (near : ℤ → ℤ → Type 0) (c s : List ℤ) (o : Outcome) (exact : Coefficient → ℤ) : Type 0 where
-  pub c20 : near (gained c (o .c) (place 2 0)) (exact C20)
-  pub c21 : near (gained c (o .c) (place 2 1)) (exact C21)
-  pub s21 : near (gained s (o .s) (place 2 1)) (exact S21)
-  pub c22 : near (gained c (o .c) (place 2 2)) (exact C22)
-  pub s22 : near (gained s (o .s) (place 2 2)) (exact S22)
+abbrev pub fiveGained : List ℤ → List ℤ → Outcome → Coefficient → ℤ
+fiveGained c s o C20 = gained c (o .c) (place 2 0)
+fiveGained c s o C21 = gained c (o .c) (place 2 1)
+fiveGained c s o S21 = gained s (o .s) (place 2 1)
+fiveGained c s o C22 = gained c (o .c) (place 2 2)
+fiveGained c s o S22 = gained s (o .s) (place 2 2)
+
+-- one of five corrections
+abbrev pub ofFive : Corrections → Coefficient → ℤ
+ofFive d C20 = d .c20
+ofFive d C21 = d .c21
+ofFive d S21 = d .s21
+ofFive d C22 = d .c22
+ofFive d S22 = d .s22
 
 pub record OceanClose (n : ℕ) (c s : List ℤ) (sheet : List ℕ) (phases : Phases) (frame : Frame) : Type 0 where
   pub in-c : (j : ℕ) → j < placeCount sheet → atMostNineCounts (gained c (oceanTide n c s sheet phases frame .c) (indexOf sheet j)) (oceanSum sheet phases frame cCos cSin j)
@@ -120,12 +146,13 @@ pub record PoleClose (n : ℕ) (c s : List ℤ) (xp yp : ℤ) (love : LoveModel)
   pub s21 : withinHalfACount (gained s (poleTide n c s xp yp love .s) (place 2 1)) (exactS21 love xp yp)
 
 pub record Third : Type 0 where
+  -- T-06: "the third demand then reads the part of the sum that step two gives": what an entry gained, less step one's correction.
   -- T-04: "The less-than-one-count bound is to hold for every selection", from the exact sum of the lines named
-  pub step-two : (n : ℕ) (c s : List ℤ) (phases : Phases) (love : LoveModel) (selection : ℕ) → stepTwoRefusal n c s selection ≡ 0
-      → FiveClose lessThanOneCount c s (stepTwo n c s phases love selection) (lineSum phases love selection)
+  pub solid-tide : (n : ℕ) (c s : List ℤ) (moon sun : Body) (love : LoveModel) (phases : Phases) (selection : ℕ) → solidTideRefusal n c s moon sun love selection ≡ 0 → (k : Coefficient)
+      → lessThanOneCount (fiveGained c s (solidTide n c s moon sun love phases selection) k -ℤ ofFive (ofBodies (countsOf (bodyCorrections moon sun love))) k) (lineSum phases love selection k)
   -- T-01: "Each resulting correction must lie within three counts of its exact sum"
-  pub own-lines : (n : ℕ) (c s : List ℤ) (lines : List OwnLine) (phases : Phases) → ownLinesRefusal n c s lines ≡ 0
-      → FiveClose withinThreeCounts c s (ownLines n c s lines phases) (ownSum phases lines)
+  pub own-lines : (n : ℕ) (c s : List ℤ) (lines : List OwnLine) (phases : Phases) → ownLinesRefusal n c s lines ≡ 0 → (k : Coefficient)
+      → withinThreeCounts (fiveGained c s (ownLines n c s lines phases) k) (ownSum phases lines k)
   -- T-05: "One rounding each", of the exact fraction
   pub pole-tide : (n : ℕ) (c s : List ℤ) (xp yp : ℤ) (love : LoveModel) → poleTideRefusal n c s xp yp ≡ 0 → PoleClose n c s xp yp love
   pub ocean-tide : (n : ℕ) (c s : List ℤ) (sheet : List ℕ) (phases : Phases) (frame : Frame) → oceanRefusal n c s sheet ≡ 0 → OceanClose n c s sheet phases frame

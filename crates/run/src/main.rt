@@ -152,18 +152,13 @@ fn move_c20() {
     }
 }
 
-fn step_one(n: u32, c: &mut [i64], s: &mut [i64]) {
+fn solid_tide(n: u32, c: &mut [i64], s: &mut [i64]) {
     let love = read_love();
     let moon = read_body();
     let sun = read_body();
-    write_answer(surfgimlet::step_one(n, c, s, moon, sun, love));
-}
-
-fn step_two(n: u32, c: &mut [i64], s: &mut [i64]) {
-    let love = read_love();
     let phases = replay::read_phases();
     let selection = replay::read_u64();
-    match surfgimlet::step_two(n, c, s, phases, love, selection) {
+    match surfgimlet::solid_tide(n, c, s, moon, sun, love, phases, selection) {
         Named::Lines(lines) => {
             write_number(0);
             write_next(lines as i64);
@@ -189,9 +184,8 @@ fn pole_tide(n: u32, c: &mut [i64], s: &mut [i64]) {
 
 fn called(call: u8, n: u32, c: &mut [i64], s: &mut [i64]) {
     match call {
-        4 => step_one(n, c, s),
-        5 => step_two(n, c, s),
-        6 => ocean_tide(n, c, s),
+        4 => solid_tide(n, c, s),
+        5 => ocean_tide(n, c, s),
         _ => pole_tide(n, c, s),
     }
 }

@@ -3,7 +3,7 @@ use mathlib.Core.Path.{_≡_, refl, sym, ap, subst, _∙_}
 use mathlib.Core.Bool.{Bool, true, false, cond, _&&_}
 use mathlib.Core.List.{List}
 use mathlib.Core.Logic.{_⊎_, inl, inr, _↔_}
-use Prim.Native.Nat.{ℕ, _<_}
+use Prim.Native.Nat.{ℕ, _≤_, _<_}
 use native.Mathlib.Omega.{arith}
 use lib.Dec.{T}
 use lib.Ieee.{Float, nan}
@@ -136,3 +136,17 @@ module _ (moon sun : Body) (love : LoveModel) where
       × (corrections moon sun love ≡ refused 6 ↔ TooLarge moon sun love)
   unfolding corrections
   step-one-table = by-sights (sighted moon) (sighted sun) refl refl
+
+  -- no other number
+  pub at-most-six : toldNumber (corrections moon sun love) ≤ 6
+  unfolding corrections measured
+  at-most-six = by (sighted moon) (sighted sun) (sight-number moon) (sight-number sun)
+    where
+      six : (b : Bool) (k : Counts) → toldNumber (cond b (accepted k) (refused 6)) ≤ 6
+      six true k = omega arith
+      six false k = omega arith
+
+      by : (t u : Told Direction) → toldNumber t < 6 → toldNumber u < 6 → toldNumber (next t (λ m. next u (λ s. measured (floats moon m sun s love) love))) ≤ 6
+      by (refused a) u h g = omega (arith, h)
+      by (accepted m) (refused b) h g = omega (arith, g)
+      by (accepted m) (accepted s) h g = let f = floats moon m sun s love in six (allCountable (f .c) && allCountable (f .s)) _

@@ -1,14 +1,14 @@
 -- Five counts as the two lists that the writer takes, and the places that they go to.
 use mathlib.Core.Path.{_≡_, refl, ap, _∙_}
 use mathlib.Core.List.{List, [], _∷_}
-use Prim.Native.Nat.{ℕ, zero, suc, _+_, _^_, _≤_, _<_}
+use Prim.Native.Nat.{ℕ, zero, suc, _+_, _<_}
 use native.Mathlib.Omega.{arith}
-use lib.IntN.{ℤ, pos, natAbs}
-use lib.ListN.{length, getD}
-use mir.Syntax.{w64}
-use mir.Facts.{toZ-ofZ}
+use lib.IntN.{ℤ}
+use lib.ListN.{length}
 use Rattle.bands.specs.declared.Corrections.{Corrections}
+use Rattle.bands.specs.Bands.{forC, forS}
 use Rattle.bands.specs.Inner.{Small as SmallCorrections}
+use Rattle.bands.proofs.Sizes.{read-c20, read-c21, read-s21, read-c22, read-s22, for-c-small, for-s-small}
 use Rattle.field.specs.Added.{addedAt}
 use Rattle.field.specs.Field.{fieldRefusal}
 use Rattle.field.specs.Inner.{Small, addedFrom}
@@ -17,8 +17,7 @@ use Rattle.field.proofs.Added.{the-places, at-run}
 use Rattle.refusals.specs.Outcome.{Gives}
 use Rattle.refusals.proofs.Outcomes.{gives-new, gives-kept}
 use Rattle.whole.proofs.Machine.{read}
-use Rattle.whole.proofs.Parts.{fits-abs}
-use Rattle.surfgimlet.specs.Calls.{forC, forS, placesC, placesS, fiveCorrected}
+use Rattle.surfgimlet.specs.Calls.{placesC, placesS, fiveCorrected}
 use Rattle.surfgimlet.specs.Inner.{FiveReady}
 
 -- the places stand one after the other
@@ -37,27 +36,16 @@ s-run (suc (suc k)) h = absurd (omega arith)
 
 module _ (d : Corrections) (s : SmallCorrections d) where
   pub read-c : read (d .c20) ∷ read (d .c21) ∷ read (d .c22) ∷ [] ≡ forC d
-  read-c = rw (toZ-ofZ (fits-abs w64 (d .c20) (omega (arith, s .c20))), toZ-ofZ (fits-abs w64 (d .c21) (omega (arith, s .c21))), toZ-ofZ (fits-abs w64 (d .c22) (omega (arith, s .c22)))) refl
+  read-c = λ i. read-c20 d s i ∷ read-c21 d s i ∷ read-c22 d s i ∷ []
 
   pub read-s : read (d .s21) ∷ read (d .s22) ∷ [] ≡ forS d
-  read-s = rw (toZ-ofZ (fits-abs w64 (d .s21) (omega (arith, s .s21))), toZ-ofZ (fits-abs w64 (d .s22) (omega (arith, s .s22)))) refl
+  read-s = λ i. read-s21 d s i ∷ read-s22 d s i ∷ []
 
   pub small-c : Small (forC d)
-  small-c = record { each = λ k. each k }
-    where
-      each : (k : ℕ) → natAbs (getD (forC d) k (pos 0)) ≤ 2 ^ 60
-      each zero = s .c20
-      each (suc zero) = s .c21
-      each (suc (suc zero)) = s .c22
-      each (suc (suc (suc k))) = omega arith
+  small-c = record { each = λ k. omega (arith, for-c-small d s k) }
 
   pub small-s : Small (forS d)
-  small-s = record { each = λ k. each k }
-    where
-      each : (k : ℕ) → natAbs (getD (forS d) k (pos 0)) ≤ 2 ^ 60
-      each zero = s .s21
-      each (suc zero) = s .s22
-      each (suc (suc k)) = omega arith
+  small-s = record { each = λ k. omega (arith, for-s-small d s k) }
 
 pub added-c : (d : Corrections) (l : List ℤ) → addedFrom 3 (forC d) l ≡ addedAt placesC (forC d) l
 unfolding placesC

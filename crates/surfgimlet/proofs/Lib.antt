@@ -1,4 +1,4 @@
-pub mod StepOne
+pub mod Solid
 pub mod Five
 pub mod OceanTide
 pub mod OwnLines

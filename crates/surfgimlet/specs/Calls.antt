@@ -4,6 +4,7 @@ use Prim.Native.Nat.{ℕ}
 use lib.IntN.{ℤ}
 use Rattle.arguments.specs.declared.Phases.{Phases}
 use Rattle.bands.specs.declared.Corrections.{Corrections}
+use Rattle.bands.specs.Bands.{forC, forS}
 use Rattle.bodies.specs.declared.Body.{Body}
 use Rattle.choices.specs.declared.Frame.{Frame}
 use Rattle.choices.specs.declared.LoveModel.{LoveModel}
@@ -15,36 +16,26 @@ use Rattle.own.specs.Own.{recordsRefusal, ownCorrections}
 use Rattle.places.specs.Places.{indexOf}
 use Rattle.pole.specs.Pole.{offsetsRefusal, corrections as poleCorrections}
 use Rattle.refusals.specs.Outcome.{Outcome, firstOf, unlessRefused}
-use Rattle.refusals.specs.Told.{Told, toldNumber}
-use Rattle.refusals.specs.Told.Told.{accepted, refused}
+use Rattle.refusals.specs.Told.{toldNumber}
 use Rattle.selection.specs.Selection.{selectionRefusal}
 use Rattle.sheet.specs.Accepted.{sheetRefusal}
 use Rattle.sheet.specs.Sheet.{placeCount}
-use Rattle.step_one.specs.StepOne.{Counts, places, corrections as bodyCorrections}
-use Rattle.step_two.specs.StepTwo.{corrections as lineCorrections}
+use Rattle.solid.specs.Solid.{solidCounts}
+use Rattle.step_one.specs.StepOne.{places, corrections as bodyCorrections}
 
--- ---- step one: refusals 1, 2, then the Moon's 3, 4, 5, the Sun's, and 6
--- nothing is added where a body or a correction is refused
-abbrev pub countsOf : Told Counts → Counts
-countsOf (accepted counts) = counts
-countsOf (refused number) = record { c = []; s = [] }
+-- ---- solid tide (02, T-06): refusals 1, 2, 14, then the Moon's 3, 4, 5, the Sun's, and 6
+unfoldable pub solidTideRefusal : ℕ → List ℤ → List ℤ → Body → Body → LoveModel → ℕ → ℕ
+solidTideRefusal n c s moon sun love selection =
+    firstOf (fieldRefusal n c s) (firstOf (selectionRefusal selection) (toldNumber (bodyCorrections moon sun love)))
 
-unfoldable pub stepOneRefusal : ℕ → List ℤ → List ℤ → Body → Body → LoveModel → ℕ
-stepOneRefusal n c s moon sun love = firstOf (fieldRefusal n c s) (toldNumber (bodyCorrections moon sun love))
+-- "The correction is the sum of the two, added once."
+unfoldable pub solidTide : ℕ → List ℤ → List ℤ → Body → Body → LoveModel → Phases → ℕ → Outcome
+solidTide n c s moon sun love phases selection =
+    let counts = solidCounts moon sun love phases selection in
+    unlessRefused (solidTideRefusal n c s moon sun love selection) c s (addedAt places (counts .c) c) (addedAt places (counts .s) s)
 
-unfoldable pub stepOne : ℕ → List ℤ → List ℤ → Body → Body → LoveModel → Outcome
-stepOne n c s moon sun love =
-    let counts = countsOf (bodyCorrections moon sun love) in
-    unlessRefused (stepOneRefusal n c s moon sun love) c s (addedAt places (counts .c) c) (addedAt places (counts .s) s)
-
--- ---- step two: refusals 1, 2, then 14 (02, T-04)
+-- ---- own lines (02, T-01): refusals 1, 2, then 12, 13
 -- C20, C21, C22; S21, S22
-abbrev pub forC : Corrections → List ℤ
-forC d = d .c20 ∷ d .c21 ∷ d .c22 ∷ []
-
-abbrev pub forS : Corrections → List ℤ
-forS d = d .s21 ∷ d .s22 ∷ []
-
 unfoldable pub placesC : List ℕ
 unfolding place
 placesC = place 2 0 ∷ place 2 1 ∷ place 2 2 ∷ []
@@ -57,13 +48,6 @@ placesS = place 2 1 ∷ place 2 2 ∷ []
 unfoldable pub fiveCorrected : ℕ → List ℤ → List ℤ → Corrections → Outcome
 fiveCorrected number c s d = unlessRefused number c s (addedAt placesC (forC d) c) (addedAt placesS (forS d) s)
 
-unfoldable pub stepTwoRefusal : ℕ → List ℤ → List ℤ → ℕ → ℕ
-stepTwoRefusal n c s selection = firstOf (fieldRefusal n c s) (selectionRefusal selection)
-
-unfoldable pub stepTwo : ℕ → List ℤ → List ℤ → Phases → LoveModel → ℕ → Outcome
-stepTwo n c s phases love selection = fiveCorrected (stepTwoRefusal n c s selection) c s (lineCorrections phases love selection)
-
--- ---- own lines (02, T-01): refusals 1, 2, then 12, 13
 unfoldable pub ownLinesRefusal : ℕ → List ℤ → List ℤ → List OwnLine → ℕ
 ownLinesRefusal n c s lines = firstOf (fieldRefusal n c s) (recordsRefusal lines)
 

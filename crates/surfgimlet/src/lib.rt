@@ -2,6 +2,7 @@
 // A field of degree n is two lent lists of counts of 10^-15, C and S, of (n+1)(n+2)/2 entries, place (n,m) at n(n+1)/2+m.
 // A call over a field tests, works out and adds. It answers Accepted, or Refused with every entry of both lists as it was.
 ghost use mathlib.Core.Path.{_≡_};
+ghost use Rattle.bands.specs.Bands.{forC, forS};
 ghost use Rattle.bands.specs.Inner.{Bounded, roundedOf};
 ghost use Rattle.doodson.specs.Doodson.{readDoodson, writeDoodson, tellsRead, tellsWritten};
 ghost use Rattle.field.specs.Added.{addedAt};
@@ -12,7 +13,7 @@ ghost use Rattle.refusals.specs.Numbers.{answerNumber};
 ghost use Rattle.refusals.specs.Outcome.{Gives, GivesValue, firstOf};
 ghost use Rattle.profiles.specs.Profiles.{allLines, majorLines};
 ghost use Rattle.selection.specs.Selection.{linesNamed, tells as tellsNamed};
-ghost use Rattle.surfgimlet.specs.Calls.{forC, forS, placesC, placesS, fiveCorrected, stepOne, stepTwo, ownLines, poleTide, oceanTide};
+ghost use Rattle.surfgimlet.specs.Calls.{placesC, placesS, fiveCorrected, solidTide, ownLines, poleTide, oceanTide};
 ghost use Rattle.surfgimlet.specs.Inner.{FiveReady};
 use arguments::Multipliers;
 use arguments::Phases;
@@ -59,51 +60,36 @@ fn add_own(n: u32, c: &mut [i64], s: &mut [i64], sum: Summed) -> Answer
     answer
 }
 
-// Solid tide, step one (001, eqs. 1 to 7; document 01, "Step one").
-// Given: a field, the Moon, the Sun, the Love model.
-// Done: the corrections of degree 2, 3 and 4 are added, the permanent part of C20 left out.
-// Refused: 1, 2, then the Moon's 3, 4, 5, then the Sun's 3, 4, 5, then 6.
-pub fn step_one(
+// Solid tide (001, eqs. 1 to 7 and Tables 6.2; document 01, "Step one" and "Step two"; document 02, T-04 and T-06).
+// Given: a field, the Moon, the Sun, the Love model, six phases, a selection whose bit i names printed line i.
+// Done: the corrections of both steps are added as one: of degree 2, 3 and 4 what the bodies raise, the permanent part of C20 left out,
+// and to C20, C21, S21, C22 and S22 what the lines named, and no others, add.
+// Answered: how many lines are named.
+// Refused: 1, 2, then 14, a bit above 48, then the Moon's 3, 4, 5, then the Sun's 3, 4, 5, then 6.
+pub fn solid_tide(
     n: u32,
     c: &mut [i64],
     s: &mut [i64],
     moon: Body,
     sun: Body,
     love: LoveModel,
-) -> Answer
-    ensures { λ r. ⌜ Gives (stepOne n (now (c .entry)) (now (s .entry)) moon sun love) (answerNumber r) (now (c .exit)) (now (s .exit)) ⌝ }
-{
-    let d = step_one::corrections_of(moon, sun, love);
-    let told = d.answer;
-    let answer = refusals::first_of(field::tested(n, c, s), told);
-    if let Answer::Accepted = answer {
-        let in_c = d.c;
-        let in_s = d.s;
-        field::add_run(c, PLACE_20, &in_c);
-        field::add_run(s, PLACE_20, &in_s);
-    }
-    answer
-}
-
-// Solid tide, step two (001, Tables 6.2; document 01, "Step two"; document 02, T-04).
-// Given: a field, six phases, the Love model, a selection whose bit i names printed line i.
-// Done: what the lines named, and no others, add to C20, C21, S21, C22 and S22 is added.
-// Answered: how many lines are named.
-// Refused: 1, 2, then 14, a bit above 48.
-pub fn step_two(
-    n: u32,
-    c: &mut [i64],
-    s: &mut [i64],
     phases: Phases,
-    love: LoveModel,
     selection: u64,
 ) -> Named
-    ensures { λ r. ⌜ GivesValue (stepTwo n (now (c .entry)) (now (s .entry)) phases love selection) (linesNamed selection) (tellsNamed r) (now (c .exit)) (now (s .exit)) ⌝ }
+    ensures { λ r. ⌜ GivesValue (solidTide n (now (c .entry)) (now (s .entry)) moon sun love phases selection) (linesNamed selection) (tellsNamed r) (now (c .exit)) (now (s .exit)) ⌝ }
 {
     let chosen = selection::tested(selection);
-    match refusals::first_of(field::tested(n, c, s), chosen) {
+    let one = step_one::corrections_of(moon, sun, love);
+    let bodies = one.answer;
+    let given = refusals::first_of(chosen, bodies);
+    match refusals::first_of(field::tested(n, c, s), given) {
         Answer::Accepted => {
-            add_five(c, s, step_two::corrections_of(phases, love, selection));
+            let two = step_two::corrections_of(phases, love, selection);
+            let d = solid::with_lines(one, two);
+            let in_c = d.c;
+            let in_s = d.s;
+            field::add_run(c, PLACE_20, &in_c);
+            field::add_run(s, PLACE_20, &in_s);
             Named::Lines(selection::lines_named(selection))
         }
         Answer::Refused(why) => Named::Refused(why),

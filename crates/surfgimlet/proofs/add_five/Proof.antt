@@ -6,8 +6,8 @@ use Prim.Native.Nat.{ℕ, _≤_}
 use native.Mathlib.Omega.{arith}
 use lib.IntN.{ℤ}
 use Rattle.bands.specs.declared.Corrections.{Corrections}
+use Rattle.bands.specs.Bands.{forC, forS}
 use Rattle.field.specs.Inner.{Ready, addedFrom}
-use Rattle.surfgimlet.specs.Calls.{forC, forS}
 use Rattle.surfgimlet.proofs.Five.{read-c, read-s, small-c, small-s, added-c, added-s}
 use Rattle.surfgimlet.proofs.add_five.Statement.{statement}
 use Rattle.surfgimlet.proofs.add_five.Tie as tie
