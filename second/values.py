@@ -7,7 +7,7 @@ Numbers stand little-endian. The input begins with the number of its cases, in 3
 over a field takes first the degree, the lengths of both lists, and their entries. A line is the refusal's number, or 0 and the values
 answered; of a call over a field, every entry of both lists as they are afterwards follows.
 The cases of own_lines stand in the words that tests/boundary/values.py writes for the C boundary, each on a field of its own.
-These are some hundreds of cases that show each call at its edges. tests/boundary/values.py holds the calls to thousands, made when it runs.
+These are about a thousand cases, which show each call at its edges. tests/boundary/values.py holds the calls to thousands, made when it runs.
 """
 
 import struct

@@ -23,13 +23,13 @@ use Rattle.pole.specs.Pole.{offsetsRefusal, exactC21, exactS21, corrections as 
 use Rattle.profiles.specs.Profiles.{allLines}
 use Rattle.profiles.proofs.Laws.{profiles}
 use Rattle.selection.specs.Selection.{selectionRefusal, names, selected, selectionOf}
-use Rattle.solid.specs.Solid.{plus, ofLines, withLines, solidCounts}
+use Rattle.solid.specs.Solid.{plus, lineCounts, withLines, solidCounts}
 use Rattle.step_two.specs.StepTwo.{corrections}
 use Rattle.wave.specs.Wave.{sin, cos, further, eighths, signed, part, folded, eighth-sine, eighth-cosine, steps, step, square, angle}
 use Rattle.whole.specs.Nearest.{nearest}
 use Rattle.whole.specs.Sum.{sumTo, allTo}
 use Rattle.surfgimlet.specs.Calls.{solidTideRefusal, solidTide, placesC, placesS, fiveCorrected, ownLinesRefusal, ownLines, poleTideRefusal, poleTide}
-use Rattle.demands.proofs.InTurn.{stepOneCall, stepTwoCall}
+use Rattle.demands.specs.InTurn.{stepOneCall, stepTwoCall}
 
 abbrev zeros : List ℤ
 zeros = pos 0 ∷ pos 0 ∷ pos 0 ∷ pos 0 ∷ pos 0 ∷ pos 0 ∷ pos 0 ∷ pos 0 ∷ pos 0 ∷ pos 0 ∷ pos 0 ∷ pos 0 ∷ pos 0 ∷ pos 0 ∷ pos 0 ∷ []
@@ -121,7 +121,7 @@ pub solid-tide-on-a-field : solidTide 4 zeros zeros moon sun Anelastic day allLi
           ∷ pos 0 ∷ negℤ (pos 5061) ∷ pos 13217 ∷ pos 22539
           ∷ pos 0 ∷ pos 1896 ∷ negℤ (pos 5790) ∷ pos 0 ∷ pos 0 ∷ [];
     }
-unfolding solidTide solidTideRefusal solidCounts withLines ofLines plus selectionRefusal firstOf unlessRefused fieldRefusal shapedBy size everyInRange places place addedAt added corrected
+unfolding solidTide solidTideRefusal solidCounts withLines lineCounts plus selectionRefusal firstOf unlessRefused fieldRefusal shapedBy size everyInRange places place addedAt added corrected
 solid-tide-on-a-field = rw (moon-and-sun Anelastic, step-two-on-a-day Anelastic, profiles .all-accepted)
 
 -- the range is tested once: where step one leaves C21 outside it, the one call is accepted, and of two calls the second was not

@@ -8,7 +8,7 @@ use lib.IntN.{ℤ, _+ℤ_}
 use lib.ListN.{length, getD}
 use Rattle.arguments.specs.declared.Phases.{Phases}
 use Rattle.bands.specs.declared.Corrections.{Corrections}
-use Rattle.bands.specs.Bands.{forC, forS}
+use Rattle.bands.specs.Bands.{Coefficient, C20, C21, S21, C22, S22, forC, forS}
 use Rattle.field.specs.Added.{addedAt}
 use Rattle.field.specs.Field.{place, fieldRefusal}
 use Rattle.field.proofs.Accepted.{accepted-field, degree-two}
@@ -19,7 +19,7 @@ use Rattle.refusals.specs.Outcome.{unlessRefused}
 use Rattle.refusals.proofs.Outcomes.{first-none}
 use Rattle.surfgimlet.specs.Calls.{placesC, placesS, fiveCorrected, ownLinesRefusal, ownLines}
 use Rattle.surfgimlet.proofs.Five.{c-run, s-run}
-use Rattle.demands.specs.Demands.{at, FiveEntries}
+use Rattle.demands.specs.Demands.{at, entryOf, ofLines, FiveEntries}
 
 module _ (l : List ℤ) (d : Corrections) where
   pub c-entry : 5 < length l → (j : ℕ) → j < length placesC → at (addedAt placesC (forC d) l) (getD placesC j 0) ≡ at l (getD placesC j 0) +ℤ at (forC d) j
@@ -53,22 +53,22 @@ module _ (number : ℕ) (c s : List ℤ) (d : Corrections) (passed : number ≡ 
   unfolding fiveCorrected unlessRefused
   s-is = rw passed
 
-  entries : 5 < length c → 5 < length s → FiveEntries c s (fiveCorrected number c s d) d
-  unfolding placesC placesS place
-  entries long-c long-s =
-      let in-c = c-entry c d long-c in
-      let in-s = s-entry s d long-s in
-      record {
-        five = record {
-          c20 = read c-is _ ∙ in-c 0 (omega arith);
-          c21 = read c-is _ ∙ in-c 1 (omega arith);
-          s21 = read s-is _ ∙ in-s 0 (omega arith);
-          c22 = read c-is _ ∙ in-c 2 (omega arith);
-          s22 = read s-is _ ∙ in-s 1 (omega arith);
-        };
-        c-elsewhere = λ k h. read c-is k ∙ c-other c d k h;
-        s-elsewhere = λ k h. read s-is k ∙ s-other s d k h;
-      }
+  module _ (long-c : 5 < length c) (long-s : 5 < length s) where
+    moved : (k : Coefficient) → entryOf (fiveCorrected number c s d .c) (fiveCorrected number c s d .s) k ≡ entryOf c s k +ℤ ofLines d k
+    unfolding placesC placesS place
+    moved C20 = read c-is _ ∙ c-entry c d long-c 0 (omega arith)
+    moved C21 = read c-is _ ∙ c-entry c d long-c 1 (omega arith)
+    moved S21 = read s-is _ ∙ s-entry s d long-s 0 (omega arith)
+    moved C22 = read c-is _ ∙ c-entry c d long-c 2 (omega arith)
+    moved S22 = read s-is _ ∙ s-entry s d long-s 1 (omega arith)
+
+    entries : FiveEntries c s (fiveCorrected number c s d) d
+    unfolding place
+    entries = record {
+      five = moved;
+      c-elsewhere = λ k h. read c-is k ∙ c-other c d k h;
+      s-elsewhere = λ k h. read s-is k ∙ s-other s d k h;
+    }
 
 -- of a field that is not refused
 on-field : (n number : ℕ) (c s : List ℤ) (d : Corrections) → fieldRefusal n c s ≡ 0 → number ≡ 0 → FiveEntries c s (fiveCorrected number c s d) d

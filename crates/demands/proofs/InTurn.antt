@@ -1,5 +1,4 @@
--- The one call and the two that it stands for: where step one's call, and then step two's on the field that it left, are both accepted, they leave what the one
--- call leaves. They differ where the first left an entry outside the range, at which the second was refused.
+-- Where the calls of step one and step two were accepted one after the other, the one call leaves what they left.
 use mathlib.Core.List.{List, _∷_}
 use mathlib.Core.Logic.{_⊎_, inl, inr}
 use mathlib.Core.Path.{_≡_, refl, sym, ap, _∙_}
@@ -16,27 +15,19 @@ use Rattle.choices.specs.declared.LoveModel.{LoveModel}
 use Rattle.field.specs.Added.{addedAt}
 use Rattle.field.specs.Field.{fieldRefusal}
 use Rattle.field.proofs.Added.{at-length}
-use Rattle.refusals.specs.Outcome.{Outcome, firstOf, unlessRefused}
+use Rattle.refusals.specs.Outcome.{Outcome, unlessRefused}
 use Rattle.refusals.specs.Told.{toldNumber}
 use Rattle.refusals.proofs.Outcomes.{outcome-number, first-none, first-passed}
 use Rattle.selection.specs.Selection.{selectionRefusal}
-use Rattle.solid.specs.Solid.{plus, ofLines, withLines, countsOf, solidCounts}
+use Rattle.solid.specs.Solid.{plus, lineCounts, withLines, countsOf, solidCounts}
 use Rattle.solid.proofs.Plus.{plus-at}
 use Rattle.step_one.specs.StepOne.{Counts, places, corrections as bodyCorrections}
 use Rattle.step_two.specs.StepTwo.{corrections as lineCorrections}
 use Rattle.surfgimlet.specs.Calls.{placesC, placesS, fiveCorrected, solidTideRefusal, solidTide}
 use Rattle.demands.specs.Demands.{at}
+use Rattle.demands.specs.InTurn.{stepOneCall, stepTwoCall}
 use Rattle.demands.proofs.Five.{c-entry, s-entry, c-other, s-other}
 use Rattle.demands.proofs.Solid.{outside, at-ten, by-place, has-room}
-
--- ---- the two calls
-unfoldable pub stepOneCall : ℕ → List ℤ → List ℤ → Body → Body → LoveModel → Outcome
-stepOneCall n c s moon sun love =
-    let one = countsOf (bodyCorrections moon sun love) in
-    unlessRefused (firstOf (fieldRefusal n c s) (toldNumber (bodyCorrections moon sun love))) c s (addedAt places (one .c) c) (addedAt places (one .s) s)
-
-unfoldable pub stepTwoCall : ℕ → List ℤ → List ℤ → Phases → LoveModel → ℕ → Outcome
-stepTwoCall n c s phases love selection = fiveCorrected (firstOf (fieldRefusal n c s) (selectionRefusal selection)) c s (lineCorrections phases love selection)
 
 -- ---- a list with ten counts added, and ten more: the sum added once
 module _ (by more l m : List ℤ) (room : 13 ≤ length l) (long : length m ≡ length l)
@@ -135,7 +126,7 @@ module _ (n : ℕ) (c s : List ℤ) (moon sun : Body) (love : LoveModel) (phases
 
     once-is : solidTide n c s moon sun love phases selection
         ≡ record { number = 0; c = addedAt places (plus (counts .c) (forC lines)) c; s = addedAt places (plus (counts .s) (pos 0 ∷ forS lines)) s }
-    unfolding solidTide unlessRefused solidCounts withLines ofLines
+    unfolding solidTide unlessRefused solidCounts withLines lineCounts
     once-is = rw passes refl
 
     in-c : addedAt places (plus (counts .c) (forC lines)) c ≡ addedAt placesC (forC lines) (one .c)

@@ -12,7 +12,7 @@ use lib.IntN.{ℤ, pos, natAbs, _+ℤ_, +ℤ-idr}
 use lib.ListN.{getD, length}
 use Rattle.arguments.specs.declared.Phases.{Phases}
 use Rattle.bands.specs.declared.Corrections.{Corrections}
-use Rattle.bands.specs.Bands.{forC, forS}
+use Rattle.bands.specs.Bands.{Coefficient, C20, C21, S21, C22, S22, forC, forS}
 use Rattle.choices.specs.declared.LoveModel.{LoveModel}
 use Rattle.refusals.specs.Told.{Told}
 use Rattle.refusals.specs.Told.Told.{accepted, refused}
@@ -31,13 +31,13 @@ use Rattle.step_one.proofs.Counted.{WhereAccepted, SmallCounts, accepted-small,
 use Rattle.step_two.specs.StepTwo.{corrections as lineCorrections}
 use Rattle.step_two.proofs.Sizes.{corrections-small}
 use Rattle.step_two.proofs.Unused.{no-lines}
-use Rattle.solid.specs.Solid.{ofLines, withLines, countsOf, solidCounts}
+use Rattle.solid.specs.Solid.{lineCounts, withLines, countsOf, solidCounts}
 use Rattle.solid.proofs.Plus.{plus-at}
 use Rattle.solid.specs.Inner.{Room}
 use Rattle.solid.proofs.Sizes.{with-lines-c, with-lines-s, still-no-order-zero}
 use Rattle.surfgimlet.specs.Calls.{solidTideRefusal, solidTide}
 use Rattle.whole.proofs.Parts.{abs-sum}
-use Rattle.demands.specs.Demands.{at, FiveGain, ofBodies, both, SolidEntries}
+use Rattle.demands.specs.Demands.{at, entryOf, ofBodies, ofLines, SolidEntries}
 use Rattle.demands.proofs.Five.{read}
 
 module _ (by l : List ℤ) where
@@ -127,22 +127,20 @@ module _ (n : ℕ) (c s : List ℤ) (moon sun : Body) (love : LoveModel) (phases
 
   -- each of the ten places has the sum of both steps' counts
   c-here : (j : ℕ) → j < 10 → at (o .c) (getD places j 0) ≡ at c (getD places j 0) +ℤ (at (one .c) j +ℤ at (forC two) j)
-  unfolding solidCounts withLines ofLines
+  unfolding solidCounts withLines lineCounts
   c-here j b = read c-is (getD places j 0) ∙ here (counts .c) c (room .0) j b ∙ ap (λ (x : ℤ). at c (getD places j 0) +ℤ x) (plus-at (one .c) (forC two) j)
 
   s-here : (j : ℕ) → j < 10 → at (o .s) (getD places j 0) ≡ at s (getD places j 0) +ℤ (at (one .s) j +ℤ at (pos 0 ∷ forS two) j)
-  unfolding solidCounts withLines ofLines
+  unfolding solidCounts withLines lineCounts
   s-here j b = read s-is (getD places j 0) ∙ here (counts .s) s (room .1) j b ∙ ap (λ (x : ℤ). at s (getD places j 0) +ℤ x) (plus-at (one .s) (pos 0 ∷ forS two) j)
 
-  five : FiveGain c s o (both (ofBodies one) two)
+  five : (k : Coefficient) → entryOf (o .c) (o .s) k ≡ entryOf c s k +ℤ (ofBodies one k +ℤ ofLines two k)
   unfolding places
-  five = record {
-    c20 = c-here 0 (omega arith);
-    c21 = c-here 1 (omega arith);
-    s21 = s-here 1 (omega arith);
-    c22 = c-here 2 (omega arith);
-    s22 = s-here 2 (omega arith);
-  }
+  five C20 = c-here 0 (omega arith)
+  five C21 = c-here 1 (omega arith)
+  five S21 = s-here 1 (omega arith)
+  five C22 = c-here 2 (omega arith)
+  five S22 = s-here 2 (omega arith)
 
   -- step two has nothing beyond degree two
   alone : (j : ℕ) → 3 ≤ j → j < 10

@@ -56,31 +56,31 @@ pub record First : Type 0 where
 
 -- "The solid-tide corrections follow Chapter 6 .., and the ocean ones the synthesis rule ..": each entry that a rule names gains its correction.
 -- "Coefficients a rule does not name keep their values."
--- five entries of degree two
-pub record FiveGain (c s : List ℤ) (o : Outcome) (d : Corrections) : Type 0 where
-  pub c20 : at (o .c) (place 2 0) ≡ at c (place 2 0) +ℤ d .c20
-  pub c21 : at (o .c) (place 2 1) ≡ at c (place 2 1) +ℤ d .c21
-  pub s21 : at (o .s) (place 2 1) ≡ at s (place 2 1) +ℤ d .s21
-  pub c22 : at (o .c) (place 2 2) ≡ at c (place 2 2) +ℤ d .c22
-  pub s22 : at (o .s) (place 2 2) ≡ at s (place 2 2) +ℤ d .s22
+-- the entry of a coefficient of degree two, and what step one and a rule of lines add to it
+abbrev pub entryOf : List ℤ → List ℤ → Coefficient → ℤ
+entryOf c s C20 = at c (place 2 0)
+entryOf c s C21 = at c (place 2 1)
+entryOf c s S21 = at s (place 2 1)
+entryOf c s C22 = at c (place 2 2)
+entryOf c s S22 = at s (place 2 2)
 
--- step one's correction of each of them, by its counts
-abbrev pub ofBodies : Counts → Corrections
-ofBodies one = record { c20 = at (one .c) 0; c21 = at (one .c) 1; s21 = at (one .s) 1; c22 = at (one .c) 2; s22 = at (one .s) 2 }
+abbrev pub ofBodies : Counts → Coefficient → ℤ
+ofBodies one C20 = at (one .c) 0
+ofBodies one C21 = at (one .c) 1
+ofBodies one S21 = at (one .s) 1
+ofBodies one C22 = at (one .c) 2
+ofBodies one S22 = at (one .s) 2
 
--- T-06: "The correction is the sum of the two"
-abbrev pub both : Corrections → Corrections → Corrections
-both one two = record {
-  c20 = one .c20 +ℤ two .c20;
-  c21 = one .c21 +ℤ two .c21;
-  s21 = one .s21 +ℤ two .s21;
-  c22 = one .c22 +ℤ two .c22;
-  s22 = one .s22 +ℤ two .s22;
-}
+abbrev pub ofLines : Corrections → Coefficient → ℤ
+ofLines d C20 = d .c20
+ofLines d C21 = d .c21
+ofLines d S21 = d .s21
+ofLines d C22 = d .c22
+ofLines d S22 = d .s22
 
--- C20, C21, S21, C22 and S22 from both steps, degree 3 and 4 from step one alone
+-- T-06: "The correction is the sum of the two": C20, C21, S21, C22 and S22 from both steps, degree 3 and 4 from step one alone
 pub record SolidEntries (c s : List ℤ) (o : Outcome) (one : Counts) (two : Corrections) : Type 0 where
-  pub degree-two : FiveGain c s o (both (ofBodies one) two)
+  pub degree-two : (k : Coefficient) → entryOf (o .c) (o .s) k ≡ entryOf c s k +ℤ (ofBodies one k +ℤ ofLines two k)
   pub beyond : (j : ℕ) → 3 ≤ j → j < 10
       → (at (o .c) (getD places j 0) ≡ at c (getD places j 0) +ℤ at (one .c) j) × (at (o .s) (getD places j 0) ≡ at s (getD places j 0) +ℤ at (one .s) j)
   pub elsewhere : (k : ℕ) → (k < place 2 0) ⊎ (place 4 3 ≤ k) → (at (o .c) k ≡ at c k) × (at (o .s) k ≡ at s k)
@@ -88,7 +88,7 @@ pub record SolidEntries (c s : List ℤ) (o : Outcome) (one : Counts) (two : Cor
 
 -- own lines
 pub record FiveEntries (c s : List ℤ) (o : Outcome) (d : Corrections) : Type 0 where
-  pub five : FiveGain c s o d
+  pub five : (k : Coefficient) → entryOf (o .c) (o .s) k ≡ entryOf c s k +ℤ ofLines d k
   pub c-elsewhere : (k : ℕ) → (k < place 2 0) ⊎ (place 3 0 ≤ k) → at (o .c) k ≡ at c k
   pub s-elsewhere : (k : ℕ) → (k < place 2 1) ⊎ (place 3 0 ≤ k) → at (o .s) k ≡ at s k
 
@@ -122,20 +122,8 @@ pub record Second : Type 0 where
 
 -- "For any six phases, and any sheet and field that are accepted, each ocean correction is at most nine counts from the exact sum, and each second-step solid
 -- correction less than one count", of what each entry gained
-abbrev pub fiveGained : List ℤ → List ℤ → Outcome → Coefficient → ℤ
-fiveGained c s o C20 = gained c (o .c) (place 2 0)
-fiveGained c s o C21 = gained c (o .c) (place 2 1)
-fiveGained c s o S21 = gained s (o .s) (place 2 1)
-fiveGained c s o C22 = gained c (o .c) (place 2 2)
-fiveGained c s o S22 = gained s (o .s) (place 2 2)
-
--- one of five corrections
-abbrev pub ofFive : Corrections → Coefficient → ℤ
-ofFive d C20 = d .c20
-ofFive d C21 = d .c21
-ofFive d S21 = d .s21
-ofFive d C22 = d .c22
-ofFive d S22 = d .s22
+abbrev pub gainOf : List ℤ → List ℤ → Outcome → Coefficient → ℤ
+gainOf c s o k = entryOf (o .c) (o .s) k -ℤ entryOf c s k
 
 pub record OceanClose (n : ℕ) (c s : List ℤ) (sheet : List ℕ) (phases : Phases) (frame : Frame) : Type 0 where
   pub in-c : (j : ℕ) → j < placeCount sheet → atMostNineCounts (gained c (oceanTide n c s sheet phases frame .c) (indexOf sheet j)) (oceanSum sheet phases frame cCos cSin j)
@@ -149,10 +137,10 @@ pub record Third : Type 0 where
   -- T-06: "the third demand then reads the part of the sum that step two gives": what an entry gained, less step one's correction.
   -- T-04: "The less-than-one-count bound is to hold for every selection", from the exact sum of the lines named
   pub solid-tide : (n : ℕ) (c s : List ℤ) (moon sun : Body) (love : LoveModel) (phases : Phases) (selection : ℕ) → solidTideRefusal n c s moon sun love selection ≡ 0 → (k : Coefficient)
-      → lessThanOneCount (fiveGained c s (solidTide n c s moon sun love phases selection) k -ℤ ofFive (ofBodies (countsOf (bodyCorrections moon sun love))) k) (lineSum phases love selection k)
+      → lessThanOneCount (gainOf c s (solidTide n c s moon sun love phases selection) k -ℤ ofBodies (countsOf (bodyCorrections moon sun love)) k) (lineSum phases love selection k)
   -- T-01: "Each resulting correction must lie within three counts of its exact sum"
   pub own-lines : (n : ℕ) (c s : List ℤ) (lines : List OwnLine) (phases : Phases) → ownLinesRefusal n c s lines ≡ 0 → (k : Coefficient)
-      → withinThreeCounts (fiveGained c s (ownLines n c s lines phases) k) (ownSum phases lines k)
+      → withinThreeCounts (gainOf c s (ownLines n c s lines phases) k) (ownSum phases lines k)
   -- T-05: "One rounding each", of the exact fraction
   pub pole-tide : (n : ℕ) (c s : List ℤ) (xp yp : ℤ) (love : LoveModel) → poleTideRefusal n c s xp yp ≡ 0 → PoleClose n c s xp yp love
   pub ocean-tide : (n : ℕ) (c s : List ℤ) (sheet : List ℕ) (phases : Phases) (frame : Frame) → oceanRefusal n c s sheet ≡ 0 → OceanClose n c s sheet phases frame

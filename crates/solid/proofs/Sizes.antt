@@ -11,7 +11,7 @@ use Rattle.step_one.specs.Inner.{Small}
 use Rattle.step_one.specs.StepOne.{Counts}
 use Rattle.step_one.proofs.Counted.{NoOrderZero}
 use Rattle.whole.proofs.Parts.{abs-sum}
-use Rattle.solid.specs.Solid.{plus, ofLines, withLines}
+use Rattle.solid.specs.Solid.{plus, lineCounts, withLines}
 use Rattle.solid.specs.Inner.{Room}
 use Rattle.solid.proofs.Plus.{plus-at}
 
@@ -21,20 +21,20 @@ plus-small xs ys small h =
 
 module _ (one : Counts) (two : Corrections) where
   pub with-lines-c : Room one two → Small 54 (withLines one two .c)
-  unfolding withLines ofLines
+  unfolding withLines lineCounts
   with-lines-c r = plus-small (one .c) _ (r .in-c) (for-c-small two (r .lines))
 
   pub with-lines-s : Room one two → Small 54 (withLines one two .s)
-  unfolding withLines ofLines
+  unfolding withLines lineCounts
   with-lines-s r = plus-small (one .s) _ (r .in-s) each
     where
-      each : (k : ℕ) → natAbs (getD (ofLines two .s) k (pos 0)) ≤ 2 ^ 33
+      each : (k : ℕ) → natAbs (getD (lineCounts two .s) k (pos 0)) ≤ 2 ^ 33
       each zero = omega arith
       each (suc k) = for-s-small two (r .lines) k
 
   -- S at 20, 30 and 40
   pub still-no-order-zero : NoOrderZero one → NoOrderZero (withLines one two)
-  unfolding withLines ofLines
+  unfolding withLines lineCounts
   still-no-order-zero z = record {
     s20 = plus-at (one .s) _ 0 ∙ rw (z .s20);
     s30 = plus-at (one .s) _ 3 ∙ rw (z .s30);

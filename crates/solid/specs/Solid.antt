@@ -19,12 +19,12 @@ plus [] (y ∷ ys) = y ∷ ys
 plus (x ∷ xs) (y ∷ ys) = (x +ℤ y) ∷ plus xs ys
 
 -- what step two adds at step one's places 20, 21, 22, 30, ..: at degree two, S20 apart, and nothing beyond
-unfoldable pub ofLines : Corrections → Counts
-ofLines d = record { c = forC d; s = pos 0 ∷ forS d }
+unfoldable pub lineCounts : Corrections → Counts
+lineCounts d = record { c = forC d; s = pos 0 ∷ forS d }
 
 -- "the sum of the two"
 unfoldable pub withLines : Counts → Corrections → Counts
-withLines one two = record { c = plus (one .c) (ofLines two .c); s = plus (one .s) (ofLines two .s) }
+withLines one two = record { c = plus (one .c) (lineCounts two .c); s = plus (one .s) (lineCounts two .s) }
 
 -- step one's counts; none where a body or a correction is refused
 abbrev pub countsOf : Told Counts → Counts

@@ -4,12 +4,12 @@ use mathlib.Core.Path.{_∙_}
 use native.Mathlib.Omega.{arith}
 use lib.IntN.{pos}
 use Rattle.bands.proofs.Sizes.{read-c20, read-c21, read-s21, read-c22, read-s22}
-use Rattle.solid.specs.Solid.{plus, ofLines, withLines}
+use Rattle.solid.specs.Solid.{plus, lineCounts, withLines}
 use Rattle.solid.proofs.with_lines.Statement.{statement}
 use Rattle.solid.proofs.with_lines.Tie as tie
 
 returns : tie.Need-returns
-unfolding withLines ofLines
+unfolding withLines lineCounts
 returns c =
     let in-c = c .before .before .before in
     let a = in-c .before .before .before .before .before .before in
