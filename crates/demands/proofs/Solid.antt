@@ -168,7 +168,7 @@ module _ (n : ℕ) (c s : List ℤ) (moon sun : Body) (love : LoveModel) (phases
     order-zero = λ d. read s-is (place d 0) ∙ order-zero s counts (room .1) no-zonal d;
   }
 
-  -- "No sum leaves 64 bits": entries of at most 2^60, and counts of at most 2^54
+  -- no sum leaves 64 bits: entries of at most 2^60, and counts of at most 2^54
   small-bodies : (t : Told Counts) → bodyCorrections moon sun love ≡ t → SmallCounts (countsOf t)
   small-bodies (accepted k) e = accepted-small moon sun love k e
   small-bodies (refused number) e = record { in-c = record { size = λ k. omega arith }; in-s = record { size = λ k. omega arith } }
