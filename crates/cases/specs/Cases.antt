@@ -61,8 +61,8 @@ pub record Cases : Type 0 where
   pub p3 : readDoodson 1000000 ≡ refused 10
   -- "sine at 0, 2^30, 2^31, 3*2^30: 0, 2^30, 0, -2^30"
   pub p4 : map sin (0 ∷ 2 ^ 30 ∷ 2 ^ 31 ∷ 3 * 2 ^ 30 ∷ []) ≡ pos 0 ∷ pos (2 ^ 30) ∷ pos 0 ∷ negℤ (pos (2 ^ 30)) ∷ []
-  -- "2.5 gives 3, -2.5 gives -2, negative zero 0"
-  pub p5 : map count (round binary64 false 5 2 ∷ round binary64 true 5 2 ∷ round binary64 true 0 1 ∷ []) ≡ pos 3 ∷ negℤ (pos 2) ∷ pos 0 ∷ []
+  -- "2.5 gives 3, -2.5 gives -2, negative zero 0"; document 02, T-07: "P5's second answer becomes -3"
+  pub p5 : map count (round binary64 false 5 2 ∷ round binary64 true 5 2 ∷ round binary64 true 0 1 ∷ []) ≡ pos 3 ∷ negℤ (pos 3) ∷ pos 0 ∷ []
   -- "C20 tide-free 0, anelastic: zero -4200675, mean -18114804"
   pub p6-zero : movedC20 (pos 0) TideFree Zero Anelastic ≡ accepted (negℤ (pos 4200675))
   pub p6-mean : movedC20 (pos 0) TideFree Mean Anelastic ≡ accepted (negℤ (pos 18114804))

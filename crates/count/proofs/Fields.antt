@@ -24,14 +24,14 @@ module _ (n d q j h : ℕ) (J : j + (h + 1) ≡ 1074) (v : n * 2 ^ 1074 ≡ q * 
       turn : (a b c : ℕ) → a * c * b ≡ a * (b * c)
       turn a b c = omega arith
 
-count-is : (x : Float) (s : Bool) (q j h : ℕ) → j + (h + 1) ≡ 1074 → 0 < q → HasValue x s (q * 2 ^ j) (2 ^ 1074) → count x ≡ rounded s q h
+count-is : (x : Float) (s : Bool) (q j h : ℕ) → j + (h + 1) ≡ 1074 → HasValue x s (q * 2 ^ j) (2 ^ 1074) → count x ≡ rounded s q h
 unfolding count
-count-is nan s q j h J Q v = absurd v
-count-is (inf t) s q j h J Q v = absurd v
-count-is (fin t m e) s q j h J Q v =
+count-is nan s q j h J v = absurd v
+count-is (inf t) s q j h J v = absurd v
+count-is (fin t m e) s q j h J v =
     ap (λ (b : Bool). nearest (signed b (m * up e)) (down e)) (v .0)
     ∙ nearest-same (m * up e) (down e) q (2 ^ (h + 1)) (down-pos e) (pow-pos (h + 1)) (cross (m * up e) (down e) q j h J (v .1)) s
-    ∙ nearest-is q h Q s
+    ∙ nearest-is q h s
 
 -- ---- the value a / 2^1074, below one half
 under : (n d a p : ℕ) → 0 < d → a < p → n * (p * 2) ≡ a * d → n + n < d
@@ -75,7 +75,7 @@ small-field s (suc x) t T52 h =
 
 large-field : (s : Bool) (x t h : ℕ) → 0 < x → h + x ≡ 1074 → count (ofFields binary64 s x t) ≡ rounded s (2 ^ 52 + t) h
 large-field s zero t h lo e = absurd (not-suc-le-zero lo)
-large-field s (suc x) t h lo e = count-is (ofFields binary64 s (suc x) t) s (2 ^ 52 + t) x h (omega arith) (omega arith) (value-at s x t (omega arith))
+large-field s (suc x) t h lo e = count-is (ofFields binary64 s (suc x) t) s (2 ^ 52 + t) x h (omega arith) (value-at s x t (omega arith))
 
 -- ---- the bits
 module _ (b : ℕ) where

@@ -1,6 +1,6 @@
 // The count of a float: the whole number nearest its exact value, from its bits.
 ghost use mathlib.Core.Path.{_≡_};
-ghost use Prim.Native.Nat.{_+_, _-_, _/_, _%_, _^_, _≤_, _<_};
+ghost use Prim.Native.Nat.{_+_, _/_, _%_, _^_, _≤_, _<_};
 ghost use lib.IntN.{pos, natAbs};
 ghost use lib.Dec.{T};
 ghost use lib.Ieee.{binary64, ofBits};
@@ -11,12 +11,19 @@ const SIGN: u64 = 9223372036854775808;
 
 const LEAD: u64 = 4503599627370496;
 
-// The size of ± q / 2^(h + 1), rounded; the sign is 1 below zero. There halves up are halves down in size, so a unit of the last digit goes first.
-fn halved(q: u64, sign: u64, h: u64) -> i64
-    requires { ⌜ 0 < q ⌝ ∗ ⌜ q < 2 ^ 53 ⌝ ∗ ⌜ sign ≤ 1 ⌝ ∗ ⌜ h < 64 ⌝ }
-    ensures { λ r. ⌜ (r ≡ pos (((q - sign) / 2 ^ h + 1) / 2)) × (natAbs r ≤ 2 ^ 52) ⌝ }
+// q / 2^(h + 1) to the nearest whole number, a half up.
+fn halved(q: u64, h: u64) -> i64
+    requires { ⌜ q < 2 ^ 53 ⌝ ∗ ⌜ h < 64 ⌝ }
+    ensures { λ r. ⌜ (r ≡ pos ((q / 2 ^ h + 1) / 2)) × (natAbs r ≤ 2 ^ 52) ⌝ }
 {
-    ((((q - sign) >> h) + 1) / 2) as i64
+    (((q >> h) + 1) / 2) as i64
+}
+
+// The digits of the float with the bits b, 53 of them: its size, but for the point.
+fn digits_of(b: u64) -> u64
+    ensures { λ q. ⌜ q ≡ 2 ^ 52 + b % 2 ^ 52 ⌝ }
+{
+    LEAD + b % LEAD
 }
 
 // The places after the point of a float with this exponent, less one; 63 where that is more, which are enough for its 53 digits.
@@ -27,15 +34,14 @@ fn places_of(field: u64) -> u64
     if field < 1011 { 63 } else { 1074 - field }
 }
 
-// The float with the bits b, below 2^52 in size.
+// The float with the bits b, below 2^52 in size: the size is rounded, a half up, and gets the sign.
 fn nearest_of_bits(b: u64) -> i64
     requires { ⌜ b % 2 ^ 63 / 2 ^ 52 < 1075 ⌝ }
     ensures { λ r. ⌜ r ≡ count (ofBits binary64 b) ⌝ }
 {
-    let sign = b / SIGN;
     let h = places_of(b % SIGN / LEAD);
-    let size = halved(LEAD + b % LEAD, sign, h);
-    if sign == 0 { size } else { 0 - size }
+    let size = halved(digits_of(b), h);
+    if b < SIGN { size } else { -size }
 }
 
 pub fn nearest_count(x: f64) -> i64

@@ -40,8 +40,8 @@ module _ (xp yp : ℤ) where
   half-a-count Elastic = (nearest-near _ 1000 (omega arith), nearest-near _ 1000 (omega arith))
   half-a-count Anelastic = (nearest-near _ (10 ^ 7) (omega arith), nearest-near _ (10 ^ 7) (omega arith))
 
--- a half goes up, the sign standing inside: -64.5 to -64, 64.5 to 65
-pub at-a-half : corrections (pos 50) (pos 50) Elastic ≡ record { c21 = negℤ (pos 64); s21 = pos 65 }
+-- a half goes away from zero: -64.5 to -65, 64.5 to 65
+pub at-a-half : corrections (pos 50) (pos 50) Elastic ≡ record { c21 = negℤ (pos 65); s21 = pos 65 }
 unfolding corrections exactC21 exactS21 nearest
 at-a-half = refl
 

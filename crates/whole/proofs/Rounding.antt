@@ -1,66 +1,95 @@
--- What is known of `nearest`, and all that proofs cite of it, but where a case is computed: which way a half goes stands in the first two laws.
-use mathlib.Core.Path.{_≡_, refl, ap, _∙_}
-use Prim.Native.Nat.{ℕ, zero, suc, _+_, _-_, _*_, _/_, _≤_, _<_}
-use native.Mathlib.Nat.{mul-le-mul-left, lt-of-mul-lt-mul-left, div-mul-le-self, lt-div-mul-add}
+-- What is known of `nearest`, and all that proofs cite of it, but where a case is computed. Which way a half goes stands in the laws down to `only-nearest`.
+use mathlib.Core.Path.{_≡_, refl, sym, ap, _∙_}
+use Prim.Native.Nat.{ℕ, zero, suc, _+_, _*_, _/_, _≤_, _<_}
+use mathlib.Core.Logic.{⊎-elim}
+use native.Mathlib.Nat.{eq-or-lt-of-le, mul-le-mul-left, lt-of-mul-lt-mul-left, div-mul-le-self, lt-div-mul-add, div-eq-of-lt, div-div-eq-div-mul}
 use native.Mathlib.Omega.{arith}
 use mathlib.Core.List.{[], _∷_}
-use lib.IntN.{ℤ, pos, negℤ, natAbs, _+ℤ_, _-ℤ_, _*ℤ_, -ℤ-+ℤ-cancel}
-use lib.Signed.{shrZ}
-use Rattle.whole.specs.Nearest.{nearest}
-use Rattle.whole.proofs.Parts.{up, dn, up-neg, dn-neg, sum, difference, product, abs-twice, abs-sum, abs-product, floored}
-use Rattle.whole.proofs.Ring.{equal, !, _⊕_, _⊖_, _⊗_}
-use Rattle.whole.proofs.Floor.{only-floor}
-
--- of a number that is not negative: half the divisor is added
-pub nearest-above : (a n : ℕ) → 0 < n → nearest (pos a) n ≡ pos ((a + n / 2) / n)
-unfolding nearest
-nearest-above a n l =
-    let q = (a + n / 2) / n in
-    let Z = pos a +ℤ pos a +ℤ pos n in
-    only-floor {z = Z} {m = 2 * n} (shrZ Z (2 * n)) (pos q) (floored Z (2 * n) (omega arith))
-    (record {
-      floor = omega (arith, div-mul-le-self (a + n / 2) n, lt-div-mul-add {a = a + n / 2} {b = n} l);
-      roof = omega (arith, div-mul-le-self (a + n / 2) n, lt-div-mul-add {a = a + n / 2} {b = n} l);
-    })
-
--- of one that is not positive: half the divisor is added to its size, but a half goes up
-pub nearest-below : (a n : ℕ) → 0 < n → nearest (negℤ (pos a)) n ≡ negℤ (pos ((a + (n - 1) / 2) / n))
-unfolding nearest
-nearest-below a n l =
-    let q = (a + (n - 1) / 2) / n in
-    let z = negℤ (pos a) in
-    let Z = z +ℤ z +ℤ pos n in
-    let A = sum (z +ℤ z) (pos n) in
-    let B = sum z z in
-    let U = up-neg (pos a) in
-    let D = dn-neg (pos a) in
-    let u : up (negℤ (pos q)) ≡ 0 = up-neg (pos q) in
-    let d : dn (negℤ (pos q)) ≡ q = dn-neg (pos q) in
-    only-floor {z = Z} {m = 2 * n} (shrZ Z (2 * n)) (negℤ (pos q)) (floored Z (2 * n) (omega arith))
-    (record {
-      floor = rw (u, d) (omega (arith, div-mul-le-self (a + (n - 1) / 2) n, lt-div-mul-add {a = a + (n - 1) / 2} {b = n} l));
-      roof = rw (u, d) (omega (arith, div-mul-le-self (a + (n - 1) / 2) n, lt-div-mul-add {a = a + (n - 1) / 2} {b = n} l));
-    })
+use lib.IntN.{ℤ, pos, negsuc, negℤ, natAbs, _+ℤ_, _-ℤ_, _*ℤ_, -ℤ-+ℤ-cancel, negℤ-negℤ}
+use Rattle.whole.specs.Nearest.{halfUp, nearest, NearestTo}
+use Rattle.whole.proofs.Parts.{up, dn, difference, product, abs, abs-neg, abs-twice, abs-sum, abs-product}
+use Rattle.whole.proofs.Ring.{equal, !, ⊝, _⊕_, _⊖_, _⊗_}
 
 -- of nothing
 pub nearest-zero : (n : ℕ) → 0 < n → nearest (pos 0) n ≡ pos 0
-nearest-zero n l = nearest-above 0 n l ∙ ap pos (let h = div-mul-le-self (0 + n / 2) n in lt-one ((0 + n / 2) / n) n (omega (arith, h)))
-  where
-    lt-one : (q n : ℕ) → q * n * 2 < 2 * n → q ≡ 0
-    lt-one zero n h = refl
-    lt-one (suc q) n h = absurd (omega arith)
+unfolding nearest
+nearest-zero n l = ap pos (div-eq-of-lt (omega arith))
+
+-- the nearest of minus a number is minus its nearest
+pub nearest-reversed : (z : ℤ) (n : ℕ) → 0 < n → nearest (negℤ z) n ≡ negℤ (nearest z n)
+unfolding nearest
+nearest-reversed (pos zero) n l = nearest-zero n l ∙ sym (ap negℤ (nearest-zero n l))
+nearest-reversed (pos (suc a)) n l = refl
+nearest-reversed (negsuc a) n l = sym (negℤ-negℤ (pos (halfUp (suc a) n)))
+
+-- of a number that is not negative: half the divisor is added
+pub nearest-above : (a n : ℕ) → nearest (pos a) n ≡ pos ((a + n / 2) / n)
+unfolding nearest
+nearest-above a n =
+    let whole : (2 * a + n) / 2 ≡ a + n / 2 = omega arith in
+    ap pos (sym (div-div-eq-div-mul (2 * a + n) 2 n) ∙ ap (λ (k : ℕ). k / n) whole)
+
+-- of one that is not positive: half the divisor is added to its size
+pub nearest-below : (a n : ℕ) → 0 < n → nearest (negℤ (pos a)) n ≡ negℤ (pos ((a + n / 2) / n))
+nearest-below a n l = nearest-reversed (pos a) n l ∙ ap negℤ (nearest-above a n)
+
+-- ---- the nearest is within one half, and away from zero where it is a half; no other whole number is
+-- the same of both numbers with the other sign
+turned : (z : ℤ) (n : ℕ) (r : ℤ) → NearestTo z n r → NearestTo (negℤ z) n (negℤ r)
+turned z n r h =
+    let off : natAbs (negℤ r *ℤ pos n -ℤ negℤ z) ≡ natAbs (r *ℤ pos n -ℤ z) =
+    ap natAbs (equal (⊝ (! 0) ⊗ ! 1 ⊖ ⊝ (! 2)) (⊝ (! 0 ⊗ ! 1 ⊖ ! 2)) (r ∷ pos n ∷ z ∷ []) (omega arith)) ∙ abs-neg (r *ℤ pos n -ℤ z) in
+    record { near = rw off (h .near); away = rw (off, abs-neg z, abs-neg r) (h .away) }
+
+-- of a number that is not negative: w is how far m lies above a
+module _ (a n m : ℕ) (l : 0 < n) where
+  larger : (w : ℤ) → up w + a ≡ dn w + m → 2 * a < 2 * m + n → 2 * natAbs w ≡ n → a < m
+  larger (pos k) e h half = omega arith
+  larger (negsuc k) e h half = absurd (omega arith)
+
+  between : (w : ℤ) → up w + a ≡ dn w + m → 2 * natAbs w ≤ n → (2 * natAbs w ≡ n → a < m) → (2 * m ≤ 2 * a + n) × (2 * a < 2 * m + n)
+  between (pos k) e near away = (omega arith, omega arith)
+  between (negsuc k) e near away =
+      (omega arith, ⊎-elim (λ half. absurd (omega (arith, away half))) (λ less. omega (arith, less)) (eq-or-lt-of-le near))
+
+above : (a n : ℕ) → 0 < n → NearestTo (pos a) n (pos (halfUp a n))
+above a n l =
+    let q = halfUp a n in
+    let w = pos (q * n) -ℤ pos a in
+    let D = difference (pos (q * n)) (pos a) in
+    let floor = div-mul-le-self (2 * a + n) (2 * n) in
+    let roof = lt-div-mul-add {a = 2 * a + n} {b = 2 * n} (omega arith) in
+    record {
+      near = abs-twice w n (omega arith) (omega arith);
+      away = larger a n (q * n) l w (omega arith) (omega arith);
+    }
+
+only-above : (a n : ℕ) (r : ℤ) → 0 < n → NearestTo (pos a) n r → r ≡ pos (halfUp a n)
+only-above a n (pos k) l h =
+    let q = halfUp a n in
+    let b = between a n (k * n) l (pos (k * n) -ℤ pos a) (omega (arith, difference (pos (k * n)) (pos a))) (h .near) (h .away) in
+    let floor = div-mul-le-self (2 * a + n) (2 * n) in
+    let roof = lt-div-mul-add {a = 2 * a + n} {b = 2 * n} (omega arith) in
+    let below : 2 * n * k < 2 * n * (q + 1) = omega (arith, b .0) in
+    let over : 2 * n * q < 2 * n * (k + 1) = omega (arith, b .1) in
+    ap pos (omega (arith, lt-of-mul-lt-mul-left (2 * n) below, lt-of-mul-lt-mul-left (2 * n) over))
+only-above a n (negsuc k) l h =
+    let z = negsuc k *ℤ pos n in
+    absurd (omega (arith, h .near, difference z (pos a), product (negsuc k) (pos n), abs (z -ℤ pos a)))
+
+pub is-nearest : (z : ℤ) (n : ℕ) → 0 < n → NearestTo z n (nearest z n)
+unfolding nearest
+is-nearest (pos a) n l = above a n l
+is-nearest (negsuc a) n l = turned (pos (suc a)) n (pos (halfUp (suc a) n)) (above (suc a) n l)
+
+pub only-nearest : (z : ℤ) (n : ℕ) (r : ℤ) → 0 < n → NearestTo z n r → r ≡ nearest z n
+unfolding nearest
+only-nearest (pos a) n r l h = only-above a n r l h
+only-nearest (negsuc a) n r l h = sym (negℤ-negℤ r) ∙ ap negℤ (only-above (suc a) n (negℤ r) l (turned (negsuc a) n r h))
 
 -- the nearest is within one half
 pub nearest-near : (z : ℤ) (n : ℕ) → 0 < n → 2 * natAbs (nearest z n *ℤ pos n -ℤ z) ≤ n
-unfolding nearest
-nearest-near z n l =
-    let s = shrZ (z +ℤ z +ℤ pos n) (2 * n) in
-    let F = floored (z +ℤ z +ℤ pos n) (2 * n) (omega arith) in
-    let P = product s (pos n) in
-    let D = difference (s *ℤ pos n) z in
-    let A = sum (z +ℤ z) (pos n) in
-    let B = sum z z in
-    abs-twice (s *ℤ pos n -ℤ z) n (omega (arith, F .floor)) (omega (arith, F .roof))
+nearest-near z n l = is-nearest z n l .near
 
 -- the nearest of at most k is at most k
 pub nearest-size : (z : ℤ) (n k : ℕ) → 0 < n → natAbs z ≤ k * n → natAbs (nearest z n) ≤ k

@@ -4,9 +4,9 @@ use Prim.Native.Nat.{ℕ, zero, suc, _+_, _<_}
 use native.Mathlib.Numerals.{add-one}
 use native.Mathlib.Omega.{arith}
 use mathlib.Core.List.{[], _∷_}
-use lib.IntN.{ℤ, negℤ, _+ℤ_, _*ℤ_}
+use lib.IntN.{ℤ, negℤ, _+ℤ_}
 use Rattle.whole.specs.Sum.{sumTo}
-use Rattle.whole.proofs.Ring.{equal, !, ⊝, _⊕_, _⊗_}
+use Rattle.whole.proofs.Ring.{equal, !, ⊝, _⊕_}
 
 -- one more term, as a loop counts
 pub sum-next : (f : ℕ → ℤ) (n : ℕ) → sumTo f (n + 1) ≡ sumTo f n +ℤ f n
@@ -27,10 +27,9 @@ sum-plus f g (suc n) =
     ap (λ (z : ℤ). z +ℤ (f n +ℤ g n)) (sum-plus f g n)
     ∙ equal (! 0 ⊕ ! 1 ⊕ (! 2 ⊕ ! 3)) (! 0 ⊕ ! 2 ⊕ (! 1 ⊕ ! 3)) (sumTo f n ∷ sumTo g n ∷ f n ∷ g n ∷ []) (omega arith)
 
--- a sum of negatives is the negative of the sum
-pub sum-negative : (a s : ℕ → ℤ) (n : ℕ) → sumTo (λ i. a i *ℤ negℤ (s i)) n ≡ negℤ (sumTo (λ i. a i *ℤ s i) n)
+-- a sum of reversed terms is the sum reversed
+pub sum-reversed : (f : ℕ → ℤ) (n : ℕ) → sumTo (λ i. negℤ (f i)) n ≡ negℤ (sumTo f n)
 unfolding sumTo
-sum-negative a s zero = refl
-sum-negative a s (suc n) =
-    ap (λ (z : ℤ). z +ℤ a n *ℤ negℤ (s n)) (sum-negative a s n)
-    ∙ equal (⊝ (! 0) ⊕ ! 1 ⊗ ⊝ (! 2)) (⊝ (! 0 ⊕ ! 1 ⊗ ! 2)) (sumTo (λ i. a i *ℤ s i) n ∷ a n ∷ s n ∷ []) (omega arith)
+sum-reversed f zero = refl
+sum-reversed f (suc n) =
+    ap (λ (z : ℤ). z +ℤ negℤ (f n)) (sum-reversed f n) ∙ equal (⊝ (! 0) ⊕ ⊝ (! 1)) (⊝ (! 0 ⊕ ! 1)) (sumTo f n ∷ f n ∷ []) (omega arith)

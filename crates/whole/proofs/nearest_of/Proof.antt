@@ -1,7 +1,7 @@
--- Half the divisor is added to the size; below zero a half goes to the smaller size, as the law of each sign has it.
+-- The size is rounded, a half up, and gets the sign back: the law of either sign.
 use borrow.Author.Needs.{needs}
 use mathlib.Core.Path.{_≡_, sym, ap, _∙_}
-use Prim.Native.Nat.{ℕ, _+_, _-_, _/_, _^_, _≤_, _<_}
+use Prim.Native.Nat.{ℕ, _+_, _/_, _^_, _≤_, _<_}
 use native.Mathlib.Nat.{div-mul-le-self, mul-le-mul-left}
 use native.Mathlib.Omega.{arith}
 use lib.IntN.{ℤ, pos, negℤ, natAbs}
@@ -15,89 +15,56 @@ use Rattle.whole.proofs.Rounding.{nearest-above, nearest-below}
 use Rattle.whole.proofs.nearest_of.Statement.{statement}
 use Rattle.whole.proofs.nearest_of.Tie as tie
 
-quotient-least : (m n : ℕ) → 0 < n → m / n ≤ m
-quotient-least m n l = omega (arith, div-mul-le-self m n, mul-le-mul-left (m / n) l)
+found : (c : tie.After-size-of) → c .size-of .result ≡ natAbs (c .before .args .x)
+found c = rw (toZ-ofZ (c .before .fits .x)) at (c .size-of .ensures)
 
--- the size as it was found, and its sum with a half
-module _ (c : tie.After-size-of) (half : ℕ) (h : half ≤ c .before .args .n) where
+-- the size as it was rounded
+module _ (c : tie.After-half-up) where
   abbrev x : ℤ
-  x = c .before .args .x
+  x = c .before .before .args .x
 
-  abbrev quotient : ℕ
-  quotient = (c .size-of .result + half) / c .before .args .n
+  abbrev n : ℕ
+  n = c .before .before .args .n
 
-  found : c .size-of .result ≡ natAbs x
-  found = rw (toZ-ofZ (c .before .fits .x)) at (c .size-of .ensures)
+  abbrev size : ℕ
+  size = c .half-up .result
 
-  sum-small : c .size-of .result + half < 2 ^ 63
-  sum-small = omega (arith, found, c .before .pre .1)
+  size-is : size ≡ (natAbs x + n / 2) / n
+  size-is = rw (found (c .before)) at (c .half-up .ensures)
 
-  quotient-small : quotient < 2 ^ 63
-  quotient-small = omega (arith, sum-small, quotient-least (c .size-of .result + half) (c .before .args .n) (c .before .pre .0))
+  small : size < 2 ^ 63
+  small =
+      let q = (natAbs x + n / 2) / n in
+      omega (arith, size-is, c .before .before .pre .1, div-mul-le-self (natAbs x + n / 2) n, mul-le-mul-left q (c .before .before .pre .0))
 
-  held : toZ w64 quotient ≡ pos quotient
-  held = toZ-pos w64 quotient-small
+  held : toZ w64 size ≡ pos size
+  held = toZ-pos w64 small
 
 size-of-requires : tie.Need-size-of-requires
 size-of-requires c κs = search needs
 
+half-up-requires : tie.Need-half-up-requires
+half-up-requires c κs = (c .before .pre .0, omega (arith, found c, c .before .pre .1))
+
+cast-size : tie.Need-cast-size
+cast-size c = record { sfits = small c }
+
 sub-result : tie.Need-sub-result
-sub-result c = search needs
-
-add-result : tie.Need-add-result
-add-result c = omega (arith, sum-small (c .before) ((c .before .before .args .n - 1) / 2) (omega arith))
-
-div-result : tie.Need-div-result
-div-result c = search needs
-
-cast-result : tie.Need-cast-result
-cast-result c = record { sfits = quotient-small (c .before) ((c .before .before .args .n - 1) / 2) (omega arith) }
-
-sub-result-2 : tie.Need-sub-result-2
-sub-result-2 c =
-    let half = (c .before .before .args .n - 1) / 2 in
-    minus-fits w64 (quotient (c .before) half (omega arith)) (held (c .before) half (omega arith)) (quotient-small (c .before) half (omega arith))
-
-add-result-2 : tie.Need-add-result-2
-add-result-2 c = omega (arith, sum-small (c .before) (c .before .before .args .n / 2) (omega arith))
-
-div-result-2 : tie.Need-div-result-2
-div-result-2 c = search needs
-
-cast-result-2 : tie.Need-cast-result-2
-cast-result-2 c = record { sfits = quotient-small (c .before) (c .before .before .args .n / 2) (omega arith) }
+sub-result c = let h = c .before in minus-fits w64 (size h) (held h) (small h)
 
 returns : tie.Need-returns
 returns c =
-    let s = c .before .before in
-    let n = s .args .n in
-    let half = (n - 1) / 2 in
-    minus-read w64 (quotient (c .before) half (omega arith)) (held (c .before) half (omega arith)) (quotient-small (c .before) half (omega arith))
-    ∙ ap (λ (a : ℕ). negℤ (pos ((a + half) / n))) (found (c .before) half (omega arith))
-    ∙ sym (nearest-below (natAbs (s .args .x)) n (s .pre .0))
-    ∙ ap (λ (z : ℤ). nearest z n) (sym (below-zero (s .args .x) (rw (toZ-ofZ (s .fits .x)) at (c .if1 .taken))))
+    let h = c .before in
+    minus-read w64 (size h) (held h) (small h)
+    ∙ ap (λ (a : ℕ). negℤ (pos a)) (size-is h)
+    ∙ sym (nearest-below (natAbs (x h)) (n h) (h .before .before .pre .0))
+    ∙ ap (λ (z : ℤ). nearest z (n h)) (sym (below-zero (x h) (rw (toZ-ofZ (h .before .before .fits .x)) at (c .if1 .taken))))
 
 returns-2 : tie.Need-returns-2
 returns-2 c =
-    let s = c .before .before in
-    let n = s .args .n in
-    held (c .before) (n / 2) (omega arith)
-    ∙ ap (λ (a : ℕ). pos ((a + n / 2) / n)) (found (c .before) (n / 2) (omega arith))
-    ∙ sym (nearest-above (natAbs (s .args .x)) n (s .pre .0))
-    ∙ ap (λ (z : ℤ). nearest z n) (sym (from-zero (s .args .x) (rw (toZ-ofZ (s .fits .x)) at (c .if1 .left))))
+    let h = c .before in
+    held h ∙ ap pos (size-is h) ∙ sym (nearest-above (natAbs (x h)) (n h))
+    ∙ ap (λ (z : ℤ). nearest z (n h)) (sym (from-zero (x h) (rw (toZ-ofZ (h .before .before .fits .x)) at (c .if1 .left))))
 
 pub nearest-of-spec : {M : Type 1} → statement M
-nearest-of-spec =
-    tie.close
-    (tie.spec
-    size-of-requires
-    sub-result
-    add-result
-    div-result
-    cast-result
-    sub-result-2
-    add-result-2
-    div-result-2
-    cast-result-2
-    returns
-    returns-2)
+nearest-of-spec = tie.close (tie.spec size-of-requires half-up-requires cast-size sub-result returns returns-2)
