@@ -72,12 +72,13 @@ static void waves(const uint32_t *restrict phases, size_t count, uint32_t *restr
 
 INLINE int64_t wave(uint32_t raised) { return (int64_t)raised - (INT64_C(1) << 30); }
 
-INLINE int64_t nearest_30(int64_t sum) { return (sum + (INT64_C(1) << 29)) >> 30; }
+/* a half away from zero: below zero one unit less than a half is added, before rounding down */
+INLINE int64_t nearest_30(int64_t sum) { return (sum + (INT64_C(1) << 29) - (sum < 0)) >> 30; }
 
-/* sum / over, its size below most: raised by that, so that the division is unsigned */
+/* sum / over, its size below most: raised by that, so that the division is unsigned; over is even */
 INLINE int64_t nearest(int64_t sum, uint64_t over, uint64_t most)
 {
-    return (int64_t)(((uint64_t)sum + most * over + over / 2) / over) - (int64_t)most;
+    return (int64_t)(((uint64_t)sum + most * over + over / 2 - (sum < 0)) / over) - (int64_t)most;
 }
 
 /* ---- solid tide: the lines */
@@ -208,7 +209,7 @@ INLINE int64_t count(double x)
 {
     int64_t whole = (int64_t)x;
     double rest = x - (double)whole;
-    return whole + (rest >= 0.5) - (rest < -0.5);
+    return whole + (rest >= 0.5) - (rest <= -0.5);
 }
 
 /* what both raise at the ten places, in counts not yet rounded: 3 to 6, or 0 */

@@ -9,7 +9,7 @@ module surfgimlet
     public :: version, solid_tide, all_lines, major_lines, own_lines, pole_tide, ocean_tide, move_c20
     public :: multipliers_of, number_of, find_line
 
-    integer(c_int32_t), parameter, public :: header_version = 3000000
+    integer(c_int32_t), parameter, public :: header_version = 3001000
     integer(c_int32_t), parameter, public :: elastic = 0, anelastic = 1
     integer(c_int32_t), parameter, public :: centre_of_figure = 0, centre_of_mass = 1
     integer(c_int32_t), parameter, public :: tide_free = 0, zero_tide = 1, mean_tide = 2

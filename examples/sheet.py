@@ -2,8 +2,8 @@
 
     python3 sheet.py bytes TABLE SHEET        python3 sheet.py table SHEET TABLE
 
-Decimals are taken exactly and rounded once to the nearest millionth or count. Places are put in order. Whether the sheet keeps the unit's limits is
-for the unit to say: `ocean_tide` answers 7, 8 or 9.
+Decimals are taken exactly and rounded once to the nearest millionth or count, a half away from zero. Places are put in order. Whether the sheet keeps the
+unit's limits is for the unit to say: `ocean_tide` answers 7, 8 or 9.
 """
 import math
 import struct
@@ -12,7 +12,9 @@ from fractions import Fraction
 
 
 def nearest(text, unit):
-    return math.floor(Fraction(text) * unit + Fraction(1, 2))
+    value = Fraction(text) * unit
+    size = math.floor(abs(value) + Fraction(1, 2))
+    return size if value > 0 else -size
 
 
 def multipliers(words):

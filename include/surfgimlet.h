@@ -6,6 +6,9 @@
  * corrections to what it is lent. Entries that a rule does not name, and S of order 0, keep their values. An accepted
  * call leaves the sum even where that lies outside the range; the next call on that field then answers 2.
  *
+ * A correction is a whole number of counts, the nearest, an exact half going away from zero. So amplitudes of own lines,
+ * coefficients of a sheet or offsets of the pole, given with the other sign, give each correction with the other sign.
+ *
  * Every call marked SURFGIMLET_ANSWER answers 0, or the number of a refusal: the first that applies in the order printed
  * at the call. A refused call changes nothing it was lent, so an answer that nobody looks at may be a field without its
  * tide: compilers that can warn of it do.
@@ -28,7 +31,7 @@
 #include <stdint.h>
 
 /* major * 1,000,000 + minor * 1,000 + patch; surfgimlet_version answers that of the library. */
-#define SURFGIMLET_VERSION 3000000
+#define SURFGIMLET_VERSION 3001000
 
 /* Where the compiler can, it warns of an answer that is not used. */
 #if defined(__cplusplus) && __cplusplus >= 201703L

@@ -114,15 +114,15 @@ int main(void)
     expect("the count kept", named, 77u);
     for (int i = 0; i < 15; i++) expect("an entry kept", c[i] == 0 && s[i] == 0 ? 0u : 1u, 0u);
 
-    /* the pole: a width that no number wraps through, the ends of its range, and a half that goes up */
+    /* the pole: a width that no number wraps through, the ends of its range, and a half that goes away from zero, so that the reversed offsets take all back */
     expect("a pole at 2^32", surfgimlet_pole_tide(4, c, 15, s, 15, (int64_t)1 << 32, 0, SURFGIMLET_ELASTIC), SURFGIMLET_POLE_OFFSET);
     expect("beyond an arcsecond", surfgimlet_pole_tide(4, c, 15, s, 15, 0, -1000001, SURFGIMLET_ELASTIC), SURFGIMLET_POLE_OFFSET);
     expect("at an arcsecond", surfgimlet_pole_tide(4, c, 15, s, 15, -1000000, 1000000, SURFGIMLET_ELASTIC), SURFGIMLET_ACCEPTED);
     expect("its C21 and S21", c[4] == 1290000 && s[4] == 1290000 ? 0u : 1u, 0u);
     expect("back again", surfgimlet_pole_tide(4, c, 15, s, 15, 1000000, -1000000, SURFGIMLET_ELASTIC), SURFGIMLET_ACCEPTED);
     expect("-64.5 and 64.5", surfgimlet_pole_tide(4, c, 15, s, 15, 50, 50, SURFGIMLET_ELASTIC), SURFGIMLET_ACCEPTED);
-    expect("rounded up", c[4] == -64 && s[4] == 65 ? 0u : 1u, 0u);
-    c[4] = s[4] = 0;
+    expect("away from zero", c[4] == -65 && s[4] == 65 ? 0u : 1u, 0u);
+    expect("64.5 and -64.5", surfgimlet_pole_tide(4, c, 15, s, 15, -50, -50, SURFGIMLET_ELASTIC), SURFGIMLET_ACCEPTED);
     for (int i = 0; i < 15; i++) expect("an entry kept by the pole", c[i] == 0 && s[i] == 0 ? 0u : 1u, 0u);
 
     /* an accepted call leaves the sum, though it lie outside the range */

@@ -17,6 +17,7 @@ static const char *events[EVENTS] = {"the Moon's kind before 1 or 2", "the Sun's
     "14 before the Sun's", "14 before 6", "the Moon's before a lower one of the Sun's", "the Sun's 3", "the Sun's 4", "the Sun's 5", "an entry left beyond the range",
     "an entry beyond the range after step one, and not after both"};
 static long met[EVENTS];
+static const char *rounded[ROUNDINGS] = {"step one", "step two", "own lines", "the pole tide", "a tide's factors", "the ocean tide"};
 
 /* xorshift64*, the seed fixed */
 static uint64_t state = UINT64_C(0x9e3779b97f4a7c15);
@@ -174,14 +175,14 @@ static void to_the_bound(surfgimlet_body *moon, surfgimlet_body *sun, uint32_t l
     move_to(moon, sun, love, largest, copysign(one_in(2) ? 0x1p52 : 0x1p52 - 0.5, d[largest]));
 }
 
-/* a product that is a whole number and a half, or the float next below: there one rounding more or less shows in the count */
+/* a product that is a whole number and a half, or the float next to it, nearer to zero: there one rounding more or less shows in the count */
 static void to_a_half(surfgimlet_body *moon, surfgimlet_body *sun, uint32_t love)
 {
     double d[20], half;
     int i = (int)below(20);
     if (model_products(*moon, *sun, love & 1, d, d + 10)) return;
     half = floor(d[i]) + 0.5;
-    move_to(moon, sun, love, i, one_in(2) ? half : nextafter(half, -INFINITY));
+    move_to(moon, sun, love, i, one_in(2) ? half : nextafter(half, 0));
 }
 
 /* any lines, all, few, all but few, a profile; one in twelve with bits that stand for no line */
@@ -197,6 +198,26 @@ static uint64_t selection(void)
     }
     if (one_in(12)) chosen |= one_in(2) ? UINT64_C(1) << (49 + below(15)) : any();
     return chosen;
+}
+
+/* a phase whose sine is 7/8, which the line 245,655 makes a whole number of counts and a half: 300 times it, in units of 2^-30 */
+static uint32_t phase_of_a_tie(void)
+{
+    static uint32_t found;
+    if (!found) {
+        found = (uint32_t)(asin(0.875) / 6.283185307179586 * 0x1p32) - 1000;
+        for (int i = 0; i < 2000 && model_sine(found) != 7 << 27; i++) found++;
+        if (model_sine(found) != 7 << 27) { puts("fuzz: no phase has the sine 7/8"); exit(1); }
+    }
+    return found;
+}
+
+/* S22 or C22 at a half of either sign, by that line alone: its phase is 2 tau - s + p */
+static void to_a_tie_of_lines(surfgimlet_phases *f, uint64_t *chosen)
+{
+    const surfgimlet_phases at = {0, 0u - (phase_of_a_tie() + ((uint32_t)below(4) << 30)), 0, 0, 0, 0};
+    *f = at;
+    *chosen = UINT64_C(1) << 47;
 }
 
 /* an offset, some in the fifties, where the elastic model has its halves; one in twelve beyond an arcsecond, up to its width */
@@ -345,6 +366,23 @@ static size_t sheet(uint8_t *out)
     return length;
 }
 
+/* a sheet of one line and one place, its admittances halves and ones, its counts 2^24 and none: of a factor every second sum is a half, of the place one
+ * in 64; where all tides round alike, a factor's shows in the place */
+static size_t tie_sheet(uint8_t *out)
+{
+    uint64_t tides = one_in(2) ? 32 : 1 + below(3);
+    uint8_t *at = put16(out, 1);
+    int64_t half = one_in(2) ? 500000 : -500000, whole = 2 * half;
+    int alike = one_in(2);
+    for (int i = 0; i < 6; i++) *at++ = i == 0;
+    at = put16(at, tides);
+    for (uint64_t k = 0; k < tides; k++) at = put32(at, alike ? half : one_in(2) ? -half : whole);
+    at = put16(at, 1);
+    *at++ = 2; *at++ = 2;
+    for (uint64_t q = 0; q < 4 * tides; q++) at = put32(at, alike ? 1 << 24 : one_in(2) ? 0 : one_in(2) ? 1 << 24 : -(1 << 24));
+    return (size_t)(at - out);
+}
+
 /* what a call reads ends at a page that may not be touched: a read past its end stops the run */
 static const void *at_the_edge(const void *bytes, size_t length)
 {
@@ -407,7 +445,7 @@ static void over_field(int call)
     uint32_t n = field(&c, &s), answer, told;
     memcpy(&c2, &c, sizeof c); memcpy(&s2, &s, sizeof s);
     if (call == OCEAN_TIDE) {
-        size_t length = sheet(bytes);
+        size_t length = one_in(20) ? tie_sheet(bytes) : sheet(bytes);
         const uint8_t *b = length ? at_the_edge(bytes, length) : NULL;
         surfgimlet_phases f = phases();
         uint32_t frame = choice(2);
@@ -439,6 +477,7 @@ static void over_field(int call)
         surfgimlet_phases f = phases();
         uint32_t love = choice(2);
         uint64_t chosen = selection();
+        if (one_in(40)) to_a_tie_of_lines(&f, &chosen);
         if (one_in(2)) to_a_half(&moon, &sun, love);
         if (one_in(10)) to_the_bound(&moon, &sun, love);
         told = model_solid_tide(n, entries(&c2), c2.length, entries(&s2), s2.length, moon, sun, love, f, chosen, &as_told.lines);
@@ -537,6 +576,10 @@ int main(int argc, char **argv)
         printf("fuzz: solid_tide, %s: %ld times\n", events[i], met[i]);
         missing += met[i] == 0;
     }
-    printf("fuzz: 200000 waves, %ld inputs, %ld differences, %ld answers or events never met\n", count, differences, missing);
+    for (int i = 0; i < ROUNDINGS; i++) {
+        printf("fuzz: exact halves of %s: %ld above zero, %ld below\n", rounded[i], model_halves[i][0], model_halves[i][1]);
+        missing += (model_halves[i][0] == 0) + (model_halves[i][1] == 0);
+    }
+    printf("fuzz: 200000 waves, %ld inputs, %ld differences, %ld answers, events or halves never met\n", count, differences, missing);
     return differences != 0 || missing != 0;
 }

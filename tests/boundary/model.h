@@ -10,12 +10,16 @@
 
 #define LIMIT (INT64_C(1) << 60)
 
-/* floor(x/n + 1/2) */
-static int64_t model_nearest(int64_t x, int64_t n)
+/* what is rounded; and how many exact halves were met of each, above and below zero */
+enum { OF_STEP_ONE, OF_STEP_TWO, OF_OWN_LINES, OF_POLE, OF_FACTORS, OF_PLACES, ROUNDINGS };
+static long model_halves[ROUNDINGS][2];
+
+/* x/n to the nearest whole number, an exact half away from zero: C divides toward zero, and what is left has the sign of x */
+static int64_t model_nearest(int64_t x, int64_t n, int what)
 {
     int64_t q = x / n, r = x % n;
-    if (r < 0) { r += n; q -= 1; }
-    return q + (2 * r >= n);
+    model_halves[what][x < 0] += 2 * r == n || 2 * r == -n;
+    return q + (2 * r >= n) - (2 * r <= -n);
 }
 
 /* ---- the field */
@@ -130,14 +134,14 @@ static void model_line(model_sums *sums, int band, int64_t ip, int64_t op, uint3
     }
 }
 
-/* each sum is rounded once */
-static void model_add_five(int64_t *c, int64_t *s, model_sums sums)
+/* each sum is rounded once; what: of which lines they are */
+static void model_add_five(int64_t *c, int64_t *s, model_sums sums, int what)
 {
-    c[model_place(2, 0)] += model_nearest(sums.c20, INT64_C(1) << 30);
-    c[model_place(2, 1)] += model_nearest(sums.c21, INT64_C(1) << 30);
-    s[model_place(2, 1)] += model_nearest(sums.s21, INT64_C(1) << 30);
-    c[model_place(2, 2)] += model_nearest(sums.c22, INT64_C(1) << 30);
-    s[model_place(2, 2)] += model_nearest(sums.s22, INT64_C(1) << 30);
+    c[model_place(2, 0)] += model_nearest(sums.c20, INT64_C(1) << 30, what);
+    c[model_place(2, 1)] += model_nearest(sums.c21, INT64_C(1) << 30, what);
+    s[model_place(2, 1)] += model_nearest(sums.s21, INT64_C(1) << 30, what);
+    c[model_place(2, 2)] += model_nearest(sums.c22, INT64_C(1) << 30, what);
+    s[model_place(2, 2)] += model_nearest(sums.s22, INT64_C(1) << 30, what);
 }
 
 /* ---- lines of an operator's own */
@@ -164,7 +168,7 @@ static uint32_t model_own_lines(uint32_t n, int64_t *c, size_t c_length, int64_t
         const int32_t m[6] = {l->tau, l->s, l->h, l->p, l->np, l->ps};
         model_line(&sums, l->tau, l->ip, l->op, model_phase(m, b));
     }
-    model_add_five(c, s, sums);
+    model_add_five(c, s, sums, OF_OWN_LINES);
     return 0;
 }
 
@@ -176,8 +180,8 @@ static uint32_t model_pole_tide(uint32_t n, int64_t *c, size_t c_length, int64_t
     if (love > 1) return 100;
     if ((refusal = model_field(n, c, c_length, s, s_length))) return refusal;
     if (xp < -1000000 || xp > 1000000 || yp < -1000000 || yp > 1000000) return 15;
-    c[model_place(2, 1)] += love ? model_nearest(-1348 * (10000 * xp + 112 * yp), 10000000) : model_nearest(-1290 * xp, 1000);
-    s[model_place(2, 1)] += love ? model_nearest(1348 * (10000 * yp - 112 * xp), 10000000) : model_nearest(1290 * yp, 1000);
+    c[model_place(2, 1)] += love ? model_nearest(-1348 * (10000 * xp + 112 * yp), 10000000, OF_POLE) : model_nearest(-1290 * xp, 1000, OF_POLE);
+    s[model_place(2, 1)] += love ? model_nearest(1348 * (10000 * yp - 112 * xp), 10000000, OF_POLE) : model_nearest(1290 * yp, 1000, OF_POLE);
     return 0;
 }
 
@@ -236,11 +240,11 @@ static void model_body(surfgimlet_body b, model_direction d, double p[7], double
     }
 }
 
-/* floor(x + 1/2) of the exact x; x - floor(x) is exact but for an x just below 0, where it is still above 1/2 */
+/* the same of a float: C's round takes halves away from zero too */
 static int64_t model_count(double x)
 {
-    double below = floor(x);
-    return (int64_t)below + (x - below >= 0.5);
+    model_halves[OF_STEP_ONE][x < 0] += fabs(x - trunc(x)) == 0.5;
+    return (int64_t)round(x);
 }
 
 /* dC and dS times 10^15 of the ten places, degrees 2, 3 and 4 in turn; or the refusal of a body */
@@ -314,7 +318,7 @@ static uint32_t model_step_two(int64_t *c, int64_t *s, uint32_t love, surfgimlet
         else if (i >= 47) model_line(&sums, 2, one, 0, model_phase(m, b));
         else if (love) model_line(&sums, 0, one, two, model_phase(m, b));
     }
-    model_add_five(c, s, sums);
+    model_add_five(c, s, sums, OF_STEP_TWO);
     return count;
 }
 
@@ -428,8 +432,8 @@ static uint32_t model_ocean_tide(uint32_t n, int64_t *c, size_t c_length, int64_
             x += a * cosine[f];
             y += a * sine[f];
         }
-        fcos[k] = model_nearest(x, 1000000);
-        fsin[k] = model_nearest(y, 1000000);
+        fcos[k] = model_nearest(x, 1000000, OF_FACTORS);
+        fsin[k] = model_nearest(y, 1000000, OF_FACTORS);
     }
     for (size_t j = 0; j < t.places; j++) {
         const uint8_t *p = t.place + j * (2 + 16 * t.tides);
@@ -441,8 +445,8 @@ static uint32_t model_ocean_tide(uint32_t n, int64_t *c, size_t c_length, int64_
             x += fcos[k] * model_word(q) + fsin[k] * model_word(q + 8);
             y += fcos[k] * model_word(q + 4) + fsin[k] * model_word(q + 12);
         }
-        c[at] += model_nearest(x, INT64_C(1) << 30);
-        s[at] += model_nearest(y, INT64_C(1) << 30);
+        c[at] += model_nearest(x, INT64_C(1) << 30, OF_PLACES);
+        s[at] += model_nearest(y, INT64_C(1) << 30, OF_PLACES);
     }
     return 0;
 }

@@ -1,11 +1,9 @@
 -- All lines selected are step two without a selection. And one rule for printed and own lines: the printed lines lent as records, with the table's
 -- numbers, are step two of all lines in the anelastic model.
-use mathlib.Core.List.{List, [], _∷_, map, _++_}
+use mathlib.Core.List.{List, map, _++_}
 use mathlib.Core.Path.{_≡_, refl, sym, ap, _∙_}
-use Prim.Native.Nat.{ℕ, zero, suc, _<_}
-use native.Mathlib.Nat.{le-of-suc-le-suc, not-suc-le-zero}
+use Prim.Native.Nat.{ℕ, _<_}
 use lib.IntN.{ℤ, pos}
-use lib.ListN.{getD}
 use Rattle.arguments.specs.declared.Phases.{Phases}
 use Rattle.bands.specs.Bands.{Coefficient, C20, C21, S21, C22, S22, term, sumOf, correctionsOf}
 use Rattle.choices.specs.declared.LoveModel.{LoveModel}
@@ -22,6 +20,7 @@ use Rattle.selection.specs.Selection.{selected}
 use Rattle.step_two.specs.StepTwo.{printedSum, selectedSum, corrections}
 use Rattle.surfgimlet.specs.Calls.{fiveCorrected, ownLinesRefusal, ownLines}
 use Rattle.wave.specs.Wave.{sin, cos}
+use Rattle.whole.proofs.Listed.{listed, agree}
 use Rattle.whole.proofs.Sums.{sum-same}
 use Rattle.whole.specs.Sum.{allTo}
 
@@ -37,20 +36,6 @@ printedAsOwn =
     map (λ (l : Printed). lent l (l .second) (pos 0)) diurnal
     ++ map (λ (l : Printed). lent l (l .first) (l .second)) longPeriod
     ++ map (λ (l : Printed). lent l (l .first) (pos 0)) semidiurnal
-
--- the first n values of a function; two functions whose values are the same lists agree there
-listed : {B : Type 0} → (ℕ → B) → ℕ → List B
-listed f zero = []
-listed f (suc n) = f 0 ∷ listed (λ i. f (suc i)) n
-
-at-listed : {B : Type 0} (f : ℕ → B) (n i : ℕ) (e : B) → i < n → getD (listed f n) i e ≡ f i
-unfolding listed
-at-listed f zero i e h = absurd (not-suc-le-zero h)
-at-listed f (suc n) zero e h = refl
-at-listed f (suc n) (suc i) e h = at-listed (λ i. f (suc i)) n i e (le-of-suc-le-suc h)
-
-agree : {B : Type 0} (f g : ℕ → B) (n : ℕ) → listed f n ≡ listed g n → (i : ℕ) → i < n → f i ≡ g i
-agree f g n same i h = sym (at-listed f n i (f 0) h) ∙ ap (λ (l : List _). getD l i (f 0)) same ∙ at-listed g n i (f 0) h
 
 same-line : (i : ℕ) → i < 49 → lineOf (recordAt printedAsOwn i) ≡ printedLine Anelastic i
 unfolding listed printedAsOwn multipliersIn lineOf bandOf printedLine inModel bandAt lineAt printed diurnal longPeriod semidiurnal

@@ -30,6 +30,12 @@ unfolding allTo
 all-of f zero h = refl
 all-of f (suc n) h = rw (all-of f n (λ i l. h i (omega arith)), h n (omega arith)) refl
 
+-- of equal tests
+pub all-same : (f g : ℕ → Bool) (n : ℕ) → ((i : ℕ) → i < n → f i ≡ g i) → allTo f n ≡ allTo g n
+unfolding allTo
+all-same f g zero h = refl
+all-same f g (suc n) h = rw (all-same f g n (λ i l. h i (omega arith)), h n (omega arith)) refl
+
 pub weight-none : (f : ℕ → ℤ) → 0 ≡ weightTo f 0
 unfolding weightTo
 weight-none f = refl
@@ -42,3 +48,9 @@ pub weight-grows : (f : ℕ → ℤ) (i n : ℕ) → i ≤ n → weightTo f i �
 unfolding weightTo
 weight-grows f i zero h = let e : i ≡ 0 = omega arith in rw e (omega arith)
 weight-grows f i (suc n) h = ⊎-elim (λ e. rw e (omega arith)) (λ l. omega (arith, weight-grows f i n (le-of-suc-le-suc l))) (eq-or-lt-of-le h)
+
+-- of equal terms
+pub weight-same : (f g : ℕ → ℤ) (n : ℕ) → ((i : ℕ) → i < n → f i ≡ g i) → weightTo f n ≡ weightTo g n
+unfolding weightTo
+weight-same f g zero h = refl
+weight-same f g (suc n) h = rw (weight-same f g n (λ i l. h i (omega arith)), h n (omega arith)) refl

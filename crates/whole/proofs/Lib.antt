@@ -9,5 +9,6 @@ pub mod Rounding
 pub mod Sums
 pub mod Bits
 pub mod Counted
+pub mod Listed
 pub mod Running
 pub mod Within

@@ -1,0 +1,25 @@
+-- The first values of a function as a list.
+use mathlib.Core.List.{List, [], _∷_}
+use mathlib.Core.Path.{_≡_, refl, sym, ap, _∙_}
+use Prim.Native.Nat.{ℕ, zero, suc, _<_}
+use native.Mathlib.Nat.{le-of-suc-le-suc, not-suc-le-zero}
+use lib.ListN.{length, getD}
+
+unfoldable pub listed : {B : Type 0} → (ℕ → B) → ℕ → List B
+listed f zero = []
+listed f (suc n) = f 0 ∷ listed (λ i. f (suc i)) n
+
+pub listed-length : {B : Type 0} (f : ℕ → B) (n : ℕ) → length (listed f n) ≡ n
+unfolding listed
+listed-length f zero = refl
+listed-length f (suc n) = ap suc (listed-length (λ i. f (suc i)) n)
+
+pub at-listed : {B : Type 0} (f : ℕ → B) (n i : ℕ) (e : B) → i < n → getD (listed f n) i e ≡ f i
+unfolding listed
+at-listed f zero i e h = absurd (not-suc-le-zero h)
+at-listed f (suc n) zero e h = refl
+at-listed f (suc n) (suc i) e h = at-listed (λ i. f (suc i)) n i e (le-of-suc-le-suc h)
+
+-- two functions whose values are the same lists agree there
+pub agree : {B : Type 0} (f g : ℕ → B) (n : ℕ) → listed f n ≡ listed g n → (i : ℕ) → i < n → f i ≡ g i
+agree f g n same i h = sym (at-listed f n i (f 0) h) ∙ ap (λ (l : List _). getD l i (f 0)) same ∙ at-listed g n i (f 0) h
