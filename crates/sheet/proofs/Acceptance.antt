@@ -18,8 +18,7 @@ use Rattle.sheet.specs.Accepted.{shaped, lineValid, rowValid, countsVali
 use Rattle.sheet.specs.declared.Layout.{Layout}
 use Rattle.sheet.specs.Inner.{Whole, Passed}
 use Rattle.refusals.proofs.Outcomes.{first-none}
-use Rattle.whole.proofs.Counted.{all-at}
-use Rattle.sheet.proofs.Flat.{all-of}
+use Rattle.whole.proofs.Counted.{all-at, all-of}
 
 four : (a b c d : Bool) → (a && b && c && d) ≡ true → (a ≡ true) × (b ≡ true) × (c ≡ true) × (d ≡ true)
 four a b c d e =

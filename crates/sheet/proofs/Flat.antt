@@ -1,20 +1,9 @@
--- Counted tests: of all at once, of the same at each, and of rows of one length taken one after another.
-use mathlib.Core.Path.{_≡_, refl, sym, _∙_}
+-- Counted tests of rows of one length, taken one after another.
+use mathlib.Core.Path.{_≡_, refl}
 use mathlib.Core.Bool.{Bool, true, false, _&&_}
-use Prim.Native.Nat.{ℕ, zero, suc, _+_, _*_, _<_}
+use Prim.Native.Nat.{ℕ, zero, suc, _+_, _*_}
 use native.Mathlib.Nat.{add-zero, add-suc, mul-zero, mul-suc}
-use native.Mathlib.Omega.{arith}
 use Rattle.whole.specs.Sum.{allTo}
-
-pub all-of : (f : ℕ → Bool) (n : ℕ) → ((i : ℕ) → i < n → f i ≡ true) → allTo f n ≡ true
-unfolding allTo
-all-of f zero h = refl
-all-of f (suc n) h = rw (all-of f n (λ i l. h i (omega arith)), h n (omega arith))
-
-pub all-same : (f g : ℕ → Bool) (n : ℕ) → ((i : ℕ) → i < n → f i ≡ g i) → allTo f n ≡ allTo g n
-unfolding allTo
-all-same f g zero h = refl
-all-same f g (suc n) h = rw (all-same f g n (λ i l. h i (omega arith)), h n (omega arith))
 
 and-true : (a : Bool) → a ≡ (a && true)
 and-true true = refl

@@ -13,10 +13,11 @@ use Rattle.whole.specs.Sum.{allTo}
 use Rattle.limits.specs.Limits.{isCoefficient}
 use Rattle.words.specs.Words.{wordAt, twosComplement}
 use Rattle.whole.proofs.Bits.{below-or}
+use Rattle.whole.proofs.Counted.{all-same}
 use Rattle.words.proofs.Signs.{raised-small}
 use Rattle.sheet.specs.Sheet.{tideCount, placeStart, coefficient}
 use Rattle.sheet.specs.Accepted.{countsValid}
-use Rattle.sheet.proofs.Flat.{all-same, all-rows}
+use Rattle.sheet.proofs.Flat.{all-rows}
 use Rattle.sheet_places.specs.Inner.{validAt, Joined}
 
 module _ (s : List ℕ) (at : ℕ) where

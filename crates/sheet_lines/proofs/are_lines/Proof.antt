@@ -9,10 +9,10 @@ use mir.Syntax.{w32}
 use Rattle.limits.specs.Limits.{isMultiplier}
 use Rattle.words.specs.Words.{byteAt, twosComplement}
 use Rattle.whole.specs.Sum.{allTo}
-use Rattle.whole.proofs.Counted.{all-none, all-more}
+use Rattle.whole.proofs.Counted.{all-none, all-more, all-same}
 use Rattle.sheet.specs.Sheet.{lineCount, multiplier}
 use Rattle.sheet.specs.Accepted.{lineValid}
-use Rattle.sheet.proofs.Flat.{all-same, all-rows}
+use Rattle.sheet.proofs.Flat.{all-rows}
 use Rattle.sheet.proofs.Signs.{told}
 use Rattle.sheet_lines.proofs.are_lines.Statement.{statement}
 use Rattle.sheet_lines.proofs.are_lines.Tie as tie

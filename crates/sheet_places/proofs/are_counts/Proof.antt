@@ -5,9 +5,9 @@ use native.Mathlib.Omega.{arith}
 use borrow.Author.Needs.{needs}
 use lib.ListN.{length}
 use Rattle.whole.specs.Sum.{allTo}
+use Rattle.whole.proofs.Counted.{all-of}
 use Rattle.sheet.specs.Sheet.{tideCount}
 use Rattle.sheet.specs.Accepted.{countsValid}
-use Rattle.sheet.proofs.Flat.{all-of}
 use Rattle.sheet.proofs.Offsets.{place-in}
 use Rattle.sheet_places.specs.Inner.{validAt}
 use Rattle.sheet_places.proofs.Joining.{by-tides}
