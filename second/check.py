@@ -1,15 +1,18 @@
-"""Runs the cases of the description (01, and T-01, T-02, T-04, T-05 and T-06 of 02) and its bounds on the second program; prints one line."""
+"""Runs the cases of the description (01, and T-01, T-02, T-04, T-05, T-06 and T-07 of 02) and its bounds on the second program; prints one line."""
 
 import struct
-from collections import Counter
+from collections import Counter, defaultdict
+from decimal import ROUND_HALF_UP, Decimal
 from fractions import Fraction
 from itertools import combinations, product
-from math import atan2, ceil, cos, factorial, floor, hypot, inf, nan, nextafter, pi, sin, sqrt, trunc
-from operator import add
+from math import atan2, ceil, cos, factorial, floor, hypot, inf, ldexp, nan, nextafter, pi, sin, sqrt, trunc
+from operator import add, neg
+from unittest.mock import patch
 
 import given
 import telling
 import tides as t
+import values
 from chance import Chance
 from given import NONE, U32, write_sheet
 
@@ -19,6 +22,7 @@ worst = Counter()           # largest error seen, per kind
 LOVES = (t.ELASTIC, t.ANELASTIC)
 FRAMES = (t.FIGURE, t.MASS)
 SYSTEMS = (t.TIDE_FREE, t.ZERO, t.MEAN)
+ZEROS = 4, [0] * 15, [0] * 15
 
 
 def expect(kind, got, wanted):
@@ -43,11 +47,153 @@ def differences(before, after):
     return [b - a for a, b in zip(before, after, strict=True)]
 
 
+def opposite(counts):
+    return tuple(map(neg, counts))
+
+
 def changes_of(five, N):
     """What the corrections to C20, C21, S21, C22, S22 change in C and in S of a field of degree N."""
     c20, c21, s21, c22, s22 = five
     rest = [0] * (t.size(N) - 6)
     return [0] * 3 + [c20, c21, c22] + rest, [0] * 4 + [s21, s22] + rest
+
+
+# --- Nearest ---
+
+HALF = Fraction(1, 2)
+
+
+def away(value):
+    """T-07's "halves go away from zero": of the two whole numbers beside a Fraction the nearer, of two as near the larger in size."""
+    return min((floor(value), ceil(value)), key=lambda whole: (abs(whole - value), -abs(whole)))
+
+
+def check_nearest(over, under):
+    """A fraction: the one whole number that lies half a count away at most, and beyond it where it is a half; and the opposite for the opposite."""
+    value = Fraction(over, under)
+    near = [whole for whole in range(floor(value) - 2, floor(value) + 4)
+            if abs(whole - value) < HALF or abs(whole - value) == HALF and abs(whole) > abs(value)]
+    expect('nearest', [t.nearest(over, under)], near)
+    expect('nearest', (t.nearest(value), away(value), t.nearest(-over, under), t.nearest(-value)), (*near * 2, -near[0], -near[0]))
+
+
+def check_float(x):
+    """A float and its negative, by the decimal module too: its name for halves away from zero is ROUND_HALF_UP."""
+    count = int(Decimal(x).to_integral_value(ROUND_HALF_UP))
+    expect('nearest', (t.nearest_float(x), t.nearest_float(-x), away(Fraction(x))), (count, -count, count))
+
+
+def nearest_counts():
+    """Fractions about every half with odd and even divisors, small ones and those of the roundings; floats at halves, beside them and near zero."""
+    for under in range(1, 41):
+        for over in range(-5 * under, 5 * under + 1):
+            check_nearest(over, under)
+    for under in (3, 7, 1000, 999, t.MILLION, t.MILLION + 1, 10**7, t.UNIT, t.UNIT - 1, t.EXACT_DENOMINATOR, 5**7, 2 * 5**7):
+        for whole in (0, 1, 2, 3, *(chance.below(1 << chance.between(1, 60)) for _ in range(40))):
+            for d in (-2, -1, 0, 1, 2):
+                check_nearest((2 * whole + 1) * under // 2 + d, under)
+            check_nearest((2 * whole + 1) * under, 2 * under)                   # a half for any divisor, not in lowest terms
+    for _ in range(3000):
+        check_nearest(chance.between(-(1 << 62), 1 << 62), chance.between(1, 1 << chance.between(0, 62)))
+    wholes = [(1 << k) + d for k in range(1, 52) for d in (-1, 0, 1)] + [chance.below(1 << chance.between(1, 52)) for _ in range(1000)]
+    for whole in (0, 1, 2, 3, (1 << 52) - 1, *wholes):
+        half = whole + 0.5
+        for x in (half, nextafter(half, 0.0), nextafter(half, inf), float(whole), nextafter(float(whole), inf), nextafter(float(whole), -inf)):
+            check_float(x)
+    for x in (0.0, 5e-324, 1e-310, ldexp(1.0, -1022), nextafter(ldexp(1.0, -1022), 0.0), 0.25, 0.3, 0.7, 0.75, 0.49999999999999994, 0.5):
+        check_float(x)
+    for _ in range(2000):
+        check_float(struct.unpack('<d', struct.pack('<Q', chance.below(1 << 52)))[0])              # below the least that is normal
+        check_float(chance.real(-1.0, 1.0) * 2.0**chance.between(-60, 52))
+
+
+# --- The roundings, each by a rule of its own ---
+
+FIVE = 'C20', 'C21', 'S21', 'C22', 'S22'
+ROUNDINGS = (
+    *product(['step one'], 'CS'), *product(['step two', 'own lines'], FIVE), *product(['pole tide'], LOVES, FIVE[1:3]),
+    *product(['factor'], ('fcos', 'fsin')), *product(['ocean tide'], 'CS'))
+
+
+def rounded_by(rule):
+    """The program's functions that round, by their names and written anew: each rounding, one of ROUNDINGS, by the rule for it and a Fraction."""
+    def each(name, which, sums, divisor):
+        return tuple(rule((*name, one), Fraction(total) / divisor) for one, total in zip(which, sums, strict=True))
+
+    def step_one_corrections(moon, sun, love, answer=t.step_one_corrections):
+        number, _ = answer(moon, sun, love)
+        corrections = []
+        for (n, m), products in () if number else sorted(t.step_one_products(moon, sun, love).items()):
+            dC, dS = each(['step one'], 'CS', products, 1) if m > 0 else (*each(['step one'], 'C', products[:1], 1), 0)
+            corrections.append((n, m, dC - (t.PERMANENT[love] if (n, m) == (2, 0) else 0), dS))
+        return number, corrections or None
+
+    def step_two_corrections(phases, love, selection):
+        return each(['step two'], FIVE, t.step_two_sums(phases, love, selection, t.sine, t.cosine), 1 << 30)
+
+    def own_line_corrections(records, phases):
+        return each(['own lines'], FIVE, t.line_sums(records, phases, t.sine, t.cosine), 1 << 30)
+
+    def pole_corrections(xp, yp, love):
+        *sums, divisor = t.pole_sums(xp, yp, love)
+        return each(['pole tide', love], FIVE[1:3], sums, divisor)
+
+    def ocean_corrections(sheet, phases, frame):
+        factors = [each(['factor'], ('fcos', 'fsin'), sums, 10**6) for sums in t.row_sums(sheet, phases, t.sine, t.cosine)]
+        return [(n, m, *each(['ocean tide'], 'CS', sums, 1 << 30)) for n, m, *sums in t.place_sums(sheet, factors, frame)]
+
+    return {one.__name__: one for one in (step_one_corrections, step_two_corrections, own_line_corrections, pole_corrections, ocean_corrections)}
+
+
+def noting(met):
+    """The functions anew by T-07's rule; into met go each rounding that is given an exact half, its sign, and whether its whole part is odd."""
+    def rule(where, value):
+        if value.denominator == 2:
+            met.add((where, value > 0, trunc(value) % 2))
+        return away(value)
+
+    return rounded_by(rule)
+
+
+def every_half(*names):
+    """What noting puts into met where all roundings of these names are given halves of either sign, their whole part even and odd."""
+    return {*product((where for where in ROUNDINGS if where[0] in names), (True, False), (0, 1))}
+
+
+ANEW = rounded_by(lambda _, value: away(value))
+
+# Rules for a Fraction that T-07 does not have.
+WRONG_ROUNDINGS = (
+    floor, ceil, trunc,
+    lambda value: floor(value + HALF),                                          # halves up: away from zero only above zero
+    lambda value: ceil(value - HALF),                                           # halves down: away from zero only below zero
+    lambda value: ceil(value - HALF) if value > 0 else floor(value + HALF),     # halves toward zero
+    round,                                                                      # halves to even
+    lambda value: 2 * floor(value / 2) + 1 if value.denominator == 2 else round(value),     # halves to odd
+    lambda value: round(value) if value < 0 else away(value),                   # to even only below zero
+    lambda value: round(value) if value > 0 else away(value),                   # to even only above zero
+    lambda value: trunc(value + HALF),                                          # half a count up, then cut
+    lambda value: trunc(value - HALF),
+    lambda value: away(Fraction(away(10 * value), 10)))                         # tenths first
+
+# Those that only values within a count of zero tell, then those that only the first halves tell.
+WRONG_NEAR_ZERO = (
+    lambda value: away(abs(value)) * (1 if trunc(value) >= 0 else -1),          # the whole part's sign
+    lambda value: away(value) or -(value < 0),                                  # the sign where the size is zero
+    lambda value: away(value) or int(value > 0))
+WRONG_FIRST_HALVES = (lambda value: 0 if value == HALF else away(value)), (lambda value: 0 if value == -HALF else away(value))
+
+# Of floats: half a count added as a float.
+WRONG_FLOATS = (lambda value: trunc(float(value) + (0.5 if value > 0 else -0.5))),
+
+
+def wrong_roundings(where):
+    """The wrong rules that some call can tell at a rounding. The least halves of the lines are 12.5, those of the pole tide 64.5 and 168.5; and the
+    elastic pole tide is nowhere within a count of zero but at zero."""
+    return (*WRONG_ROUNDINGS,
+            *WRONG_NEAR_ZERO * (t.ELASTIC not in where),
+            *WRONG_FIRST_HALVES * (where[0] in ('step one', 'factor', 'ocean tide')),
+            *WRONG_FLOATS * (where[0] == 'step one'))
 
 
 # --- Sheets ---
@@ -64,6 +210,7 @@ def check_ocean(sheet, phases, frame, N=60):
     expect('ocean', number, 0)
     moved = {}
     corrections, sums = t.ocean_corrections(read, phases, frame), t.ocean_exact(read, phases, frame)
+    expect('ocean', corrections, ANEW['ocean_corrections'](read, phases, frame))
     for (n, m, dC, dS), (_, _, exactC, exactS) in zip(corrections, sums, strict=True):
         within('ocean', max(abs(dC - exactC), abs(dS - exactS)), 9)
         moved[t.index(n, m)] = dC, dS
@@ -99,12 +246,12 @@ def cases():
     expect('P', t.doodson_read(55565), (0, (0, 0, 0, 0, 1, 0)))                                             # P2
     expect('P', t.doodson_read(1_000_000), (10, None))                                                      # P3
     expect('P', [t.sine(k << 30) for k in range(4)], [0, 1 << 30, 0, -(1 << 30)])                           # P4
-    expect('P', [t.nearest_float(x) for x in (2.5, -2.5, -0.0)], [3, -2, 0])                                # P5
-    halves = [(0.49999999999999994, 0), (-0.5, 0), (-0.5000000000000001, -1), (5e-324, 0), (4503599627370495.5, 1 << 52)]
-    for x, count in halves + [(-4503599627370495.5, 1 - (1 << 52)), (1.5, 2), (-1.5, -1)]:
-        expect('cases', t.nearest_float(x), count)
+    expect('P', [t.nearest_float(x) for x in (2.5, -2.5, -0.0)], [3, -3, 0])                                # P5
+    halves = [(0.49999999999999994, 0), (0.5, 1), (0.5000000000000001, 1), (1.5, 2), (5e-324, 0), (4503599627370495.5, 1 << 52)]
+    for x, count in halves:
+        expect('cases', (t.nearest_float(x), t.nearest_float(-x)), (count, -count))
     expect('P', t.nearest(Fraction(5, 2)), 3)
-    expect('P', t.nearest(-5, 2), -2)
+    expect('P', t.nearest(-5, 2), -3)
     expect('P', t.move_c20(0, t.TIDE_FREE, t.ZERO, t.ANELASTIC), (0, -4200675))                             # P6
     expect('P', t.move_c20(0, t.TIDE_FREE, t.MEAN, t.ANELASTIC), (0, -18114804))
     listing = b'model C20 C21 S21 C22 S22\nelastic 0 0 450700 -1500 0\nanelastic 10100 0 450100 -1500 0\n'
@@ -284,7 +431,7 @@ def step_two():
             sums = t.line_sums(t.printed_records(love), phases, t.sine, t.cosine)
             for value, total in zip(t.step_two_corrections(phases, love, t.ALL_LINES), sums, strict=True):
                 if total % t.UNIT == t.UNIT // 2:
-                    expect('step two', value, (total >> 30) + 1)                # the half goes up, whatever its sign
+                    expect('step two', (abs(value), value > 0), ((abs(total) >> 30) + 1, total > 0))        # the half's size goes up
                     ties += 1
         expect('step two', ties > 0, True)
 
@@ -300,9 +447,9 @@ def permanent():
         for c20 in (edge + 1, -edge - 1, (1 << 63) - 1, -(1 << 63)):
             expect('permanent', t.move_c20(c20, have, want, love), (2, None))
     a0h0 = Fraction(44228, 10**12) * Fraction(-31460, 10**5) * 10**15
-    expect('permanent', t.nearest(a0h0), t.MEAN_OVER_ZERO)
-    for love, k20 in ((t.ELASTIC, Fraction(29525, 10**5)), (t.ANELASTIC, Fraction(30190, 10**5))):
-        expect('permanent', t.nearest(a0h0 * k20), t.PERMANENT[love])
+    of_love = ((t.PERMANENT[love], a0h0 * k20) for love, k20 in ((t.ELASTIC, Fraction(29525, 10**5)), (t.ANELASTIC, Fraction(30190, 10**5))))
+    for count, value in ((t.MEAN_OVER_ZERO, a0h0), *of_love):
+        expect('permanent', (t.nearest(value), abs(count - value) < HALF), (count, True))           # the nearest, and no half
 
 
 # --- Choosing which lines are used ---
@@ -331,7 +478,7 @@ def check_selections(chosen, phases, love, N=4):
         digits = f'{selection:b}'[::-1]
         sums, exact = ([sum(part[i][which] for i, digit in enumerate(digits) if digit == '1') for which in range(5)] for part in parts)
         exact = tuple(Fraction(total, t.EXACT_DENOMINATOR) for total in exact)
-        five = tuple(floor(Fraction(total, 1 << 30) + Fraction(1, 2)) for total in sums)
+        five = tuple(away(Fraction(total, 1 << 30)) for total in sums)
         expect('selections', (t.step_two_corrections(phases, love, selection), t.step_two_exact(phases, love, selection)), (five, exact))
         check_solid(telling.pair(chance), love, phases, selection, five, exact, N)
         fives.append(five)
@@ -435,6 +582,7 @@ def selection_refusals(alone):
 def check_own(records, phases, N=4):
     """One list on one field: every entry after the call, and each correction against its exact sum. Answers the five."""
     five = t.own_line_corrections(records, phases)
+    expect('own lines', five, ANEW['own_line_corrections'](records, phases))
     for value, exact in zip(five, t.own_lines_exact(records, phases), strict=True):
         within('own lines', abs(value - exact), 3)
     C, S = random_field(N)
@@ -511,15 +659,16 @@ def own_lines(hardest):
         expect('own lines', check_own([(*multipliers, ip, op)] * count, phases), check_own([(*multipliers, count * ip, count * op)], phases))
     for records, phases in telling.small_records():                             # 25.6 counts of one wave, 6399.95 of the other
         expect('own lines', {*map(abs, check_own(records, phases))} - {6400}, {0, 26})
-    for records, phases in telling.own_line_ties():
+    for records, phases in (*telling.own_line_ties(), *telling.band_ties()):
         sums = t.line_sums(records, phases, t.sine, t.cosine)
         for value, total in zip(check_own(records, phases), sums, strict=True):
             if total % t.UNIT == t.UNIT // 2:
-                expect('own lines', value, (total >> 30) + 1)                   # the half goes up, whatever its sign
+                expect('own lines', (abs(value), value > 0), ((abs(total) >> 30) + 1, total > 0))           # the half's size goes up
     for (which, one), beside, _ in product(enumerate(telling.SUMS), (0, 1), range(8)):
         records, phases, total = telling.at_a_tie(chance, *one, beside)
-        expect('own lines', total % (1 << 30) - (1 << 29), 0 if not beside else 4 if which == 4 else -4)
-        expect('own lines', check_own(records, phases)[which], total + (1 << 29) >> 30)
+        expect('own lines', abs(total) % (1 << 30) - (1 << 29), -4 if beside else 0)
+        size = (abs(total) >> 30) + (not beside)                                # at the half it goes up, beside it down
+        expect('own lines', check_own(records, phases)[which], size if total > 0 else -size)
     for love, _ in product(LOVES, range(60)):                                   # the printed lines, lent
         phases = random_phases()
         expect('own lines', check_own(printed(love), phases), t.step_two_corrections(phases, love, t.ALL_LINES))
@@ -571,8 +720,6 @@ def own_line_refusals():
 
 # --- Solid pole tide ---
 
-HALF = Fraction(1, 2)
-
 # 001's a and b, in 10^-9 for an arcsecond, a count for a micro-arcsecond: C21 takes -a*(xp + b*yp), S21 a*(yp - b*xp). And its Love numbers.
 POLE = {t.ELASTIC: (Fraction('1.290'), Fraction(0)), t.ANELASTIC: (Fraction('1.348'), Fraction('0.0112'))}
 POLE_LOVE = {t.ELASTIC: 0.2977, t.ANELASTIC: 0.3111 - 0.0035j}
@@ -598,13 +745,12 @@ def check_pole(xp, yp, love, N=4):
     exact, two = pole_exact(xp, yp, love), t.pole_corrections(xp, yp, love)
     *sums, divisor = t.pole_sums(xp, yp, love)
     expect('pole tide', [Fraction(total, divisor) for total in sums], exact)
-    expect('pole tide', two, tuple(floor(value + HALF) for value in exact))     # a half goes up, whatever its sign
+    expect('pole tide', two, tuple(map(away, exact)))
     for correction, value, real in zip(two, exact, by_potential(xp, yp, love), strict=True):
         within('pole tide', abs(correction - value), HALF)
         within('pole tide by the potential', abs(correction - real) / 10**6, 0.001)                 # the decimals' last digits, at full offsets
-    turned, opposite = t.pole_corrections(-yp, xp, love), t.pole_corrections(-xp, -yp, love)
-    expect('pole tide', turned[0], two[1])                                      # the pole a quarter turn further on
-    expect('pole tide', [*map(add, two, opposite)], [int(value % 1 == HALF) for value in exact])    # the sign is in the fraction that is rounded
+    expect('pole tide', t.pole_corrections(-yp, xp, love), (two[1], -two[0]))   # the pole a quarter turn further on
+    expect('pole tide', t.pole_corrections(-xp, -yp, love), opposite(two))      # and half a turn: both offsets reversed
     C, S = random_field(N)
     number, C2, S2 = t.pole_tide(N, C, S, xp, yp, love)
     expect('pole tide', (number, differences(C, C2), differences(S, S2)), (0, *changes_of((0, *two, 0, 0), N)))
@@ -633,7 +779,8 @@ def pole_halves():
         for which, pair in enumerate(pairs):
             value = pole_exact(*pair, love)[which]
             expect('pole tide', value % 2, HALF + steps * step)
-            expect('pole tide', check_pole(*pair, love)[which], floor(value) + (steps >= 0))
+            goes_up = steps > 0 or steps == 0 and value > 0                     # a half below zero goes down
+            expect('pole tide', check_pole(*pair, love)[which], floor(value) + goes_up)
 
 
 def pole_by(rule, xp, yp, love):
@@ -650,23 +797,8 @@ def pole_by(rule, xp, yp, love):
     return 0, *lists
 
 
-def in_steps(one, two, steps):
-    """The sum rounded to so many steps of a count first."""
-    return floor(Fraction(floor(steps * (one + two) + HALF), steps) + HALF)
-
-
-WRONG_ROUNDINGS = (
-    lambda one, two: floor(one + two),
-    lambda one, two: ceil(one + two),
-    lambda one, two: trunc(one + two),
-    lambda one, two: trunc(one + two + HALF),
-    lambda one, two: round(one + two),                                          # half to even
-    lambda one, two: -floor(HALF - one - two),                                  # half down: minus the nearest of minus
-    lambda one, two: trunc(one + two + (HALF if one + two > 0 else -HALF)),     # half away from zero
-    lambda one, two: in_steps(one, two, 10))
-
-# The elastic formulas have one part, in whole hundredths.
-WRONG_ANELASTIC = lambda one, two: floor(one + HALF) + floor(two + HALF), lambda one, two: in_steps(one, two, 10_000)
+# Of the anelastic formulas, which have two parts; the elastic ones are whole hundredths of one.
+WRONG_ANELASTIC = lambda one, two: away(one) + away(two), lambda one, two: away(Fraction(away(10_000 * (one + two)), 10_000))
 
 
 def pole_slips():
@@ -685,13 +817,14 @@ def pole_slips():
     for love, formula in product(LOVES, range(2)):
         a, b = POLE[love]
         by_xp, by_yp = factors = pole_factors(a, b)[formula]
-        right['factors', love, formula], right['rounding', love, formula] = factors, lambda one, two: floor(one + two + HALF)
+        right['factors', love, formula], right['rounding', love, formula] = factors, lambda one, two: away(one + two)
         last_a, last_b = Fraction(1, 1000), Fraction(1, 10_000)
         decimals = (a + last_a, b), (a - last_a, b), (a, b + last_b), (a, b - last_b), (a, 10 * b), (a, b / 10), (a, 0), *POLE.values()
         wrong = [(by_yp, by_xp), (-by_xp, by_yp), (by_xp, -by_yp), (-by_xp, -by_yp), pole_factors(a, b)[1 - formula]]
         wrong += [pole_factors(*two)[formula] for two in decimals]
         slips += [(('factors', love, formula), pair) for pair in wrong if pair != factors]
-        slips += [(('rounding', love, formula), rounding) for rounding in WRONG_ROUNDINGS + WRONG_ANELASTIC * (love == t.ANELASTIC)]
+        of_sum = tuple(lambda one, two, wrong=wrong: wrong(one + two) for wrong in WRONG_ROUNDINGS)
+        slips += [(('rounding', love, formula), rounding) for rounding in of_sum + WRONG_ANELASTIC * (love == t.ANELASTIC)]
     calls = [*telling.pole_calls()]
     answers = [t.pole_tide(4, [0] * 15, [0] * 15, *call) for call in calls]
     expect('pole slips', [pole_by(right, *call) for call in calls], answers)
@@ -849,6 +982,9 @@ def step_one_values():
         step = Fraction(nextafter(t.NORMAL[n, m], inf)) - near
         expect('step one', (near - step / 2)**2 < Fraction(over, under) < (near + step / 2)**2, True)
         expect('step one', Fraction(over, under), Fraction(factorial(n - m) * (2 * n + 1) * (1 if m == 0 else 2), factorial(n + m)))
+    for decimal in (t.RADIUS, *(part for love in LOVES for part in (*sum(t.K[love].values(), ()), *t.K_PLUS[love]))):
+        off = abs(Fraction(repr(decimal)) - Fraction(decimal))
+        expect('step one', 2 * off < Fraction(nextafter(abs(decimal), inf)) - Fraction(abs(decimal)), True)     # no half between two floats
 
 
 def step_one_refusals():
@@ -972,7 +1108,8 @@ def solid_tide():
 
 def solid_extremes():
     """No sum leaves signed 64 bits: entry, step one and step two at their ends, of one sign, added up in any order."""
-    most_one = max(abs(t.nearest_float(sign * (t.COUNT_BOUND - 0.5))) for sign in (1, -1)) - min(t.PERMANENT.values())
+    expect('solid tide', [t.nearest_float(sign * (t.COUNT_BOUND - 0.5)) for sign in (1, -1)], [1 << 52, -(1 << 52)])
+    most_one = (1 << 52) - min(t.PERMANENT.values())
     most_two = max(100 * sum(abs(ip) + abs(op) for first, *_, ip, op in printed(love) if first == band) for love in LOVES for band in range(3))
     expect('solid tide', (most_one < 1 << 53, most_two < 1 << 20, (1 << 60) + most_one + most_two < 1 << 61), (True, True, True))
     quarters = [*product((0, 1 << 30, 1 << 31, 3 << 30), (0, 1 << 30, 1 << 31, 3 << 30), *[(0,)] * 4)]
@@ -982,7 +1119,7 @@ def solid_extremes():
         number, _, *lists = t.solid_tide(4, [sign << 60] * 15, [sign << 60] * 15, *bodies, love, phases, t.ALL_LINES)
         n, m, letter = coefficient
         permanent = t.PERMANENT[love] if m == 0 else 0
-        entry = (sign << 60) + t.nearest(Fraction(sign * (2**53 - 1), 2)) - permanent + t.step_two_corrections(phases, love, t.ALL_LINES)[which]
+        entry = (sign << 60) + (sign << 52) - permanent + t.step_two_corrections(phases, love, t.ALL_LINES)[which]
         expect('solid tide', (number, lists['CS'.index(letter)][t.index(n, m)]), (0, entry))
         expect('solid tide', all(abs(one) < 1 << 61 for entries in lists for one in entries), True)
 
@@ -1010,6 +1147,155 @@ def day():
     expect('day', (number, lines, C[3:6], S[3:6]), (0, 49, [90640, -3410551, 6229483], [0, 1284180, -4327943]))
 
 
+# --- Signs reversed ---
+
+def reversed_lines():
+    """Every amplitude of the tables reversed: each sum and correction of step two is, at halves too; and step two's part of the call."""
+    tables = {name: tuple((number, -one, -two) for number, one, two in getattr(t, name)) for name in ('DIURNAL', 'LONG_PERIOD', 'SEMIDIURNAL')}
+    tried = []
+    for love, phases in product(LOVES, (*telling.tie_phases(), telling.DAY_PHASES, telling.LINE_PHASES, *(random_phases() for _ in range(40)))):
+        chosen = t.ALL_LINES, t.MAJOR_LINES, *given.BANDS, 1 << chance.below(49), given.accepted_selection(chance), given.accepted_selection(chance)
+        tried += [(phases, love, selection) for selection in chosen]
+    bodies, met = telling.pair(chance), set()
+    alone = {love: t.solid_tide(*ZEROS, *bodies, love, NONE, 0)[2:] for love in LOVES}
+
+    def answer(phases, love, selection):
+        *_, C, S = t.solid_tide(*ZEROS, *bodies, love, phases, selection)
+        sums = t.step_two_sums(phases, love, selection, t.sine, t.cosine)
+        return sums, t.step_two_corrections(phases, love, selection), *map(differences, alone[love], (C, S))
+
+    before = [answer(*one) for one in tried]
+    with patch.multiple(t, **tables):
+        after = [answer(*one) for one in tried]
+    for one, (sums, five, of_c, of_s), other in zip(tried, before, after, strict=True):
+        expect('reversed lines', other, (opposite(sums), opposite(five), [*opposite(of_c)], [*opposite(of_s)]))
+        expect('reversed lines', (five, of_c, of_s), (noting(met)['step_two_corrections'](*one), *changes_of(five, 4)))
+    expect('reversed lines', every_half('step two') - met, set())
+
+
+def reversed_records():
+    """ip and op of every record reversed: each correction is, at halves too; and a list that is refused is refused with the same number."""
+    ties = [*telling.own_line_ties(), *telling.band_ties(), *telling.small_records()]
+    ties += [telling.at_a_tie(chance, *one, beside)[:2] for one, beside, _ in product(telling.SUMS, (0, 1), range(8))]
+    reverse = lambda records: [(*six, -ip, -op) for *six, ip, op in records]
+    met = set()
+    for records, phases in (*ties, *((given.records(chance, chance.below(65)), random_phases()) for _ in range(300))):
+        five = t.own_line_corrections(records, phases)
+        expect('reversed records', five, noting(met)['own_line_corrections'](records, phases))
+        expect('reversed records', t.own_line_corrections(reverse(records), phases), opposite(five))
+        expect('reversed records', t.own_lines(*ZEROS, reverse(records), phases), (0, *changes_of(opposite(five), 4)))
+    expect('reversed records', every_half('own lines') - met, set())
+    for count in (1, 2, 64, 65, 200):
+        records = given.faulty_records(chance, count)
+        expect('reversed records', (t.records_test(records), t.records_test(reverse(records))), (12, 12) if count > 64 else (13, 13))
+
+
+def reversed_sheet(lines, rows, places):
+    """The sheet with the sign of every coefficient reversed, in 32 bits: -2^31 stays."""
+    in_32 = lambda count: (count + (1 << 31)) % (1 << 32) - (1 << 31)
+    return lines, rows, [(n, m, [tuple(in_32(-count) for count in quad) for quad in quads]) for n, m, quads in places]
+
+
+def tied_sheet(full):
+    """A sheet whose admittances are multiples of 500,000. At quarter turns about one correction in two is a half; at other phases about one factor
+    in two, and where there are 32 tides of full size these show."""
+    lines, rows, places = given.sheet(chance, chance.between(1, 6), 32 if full else chance.between(1, 4), chance.between(1, 8))
+    rows = [[0] * len(lines) for _ in rows]
+    for row, _ in product(rows, range(8)):
+        row[chance.below(len(lines))] += chance.one(500_000, -500_000)
+    sized = lambda count: chance.one(1, -1) << 24 if full and count else count
+    return lines, rows, [(n, m, [tuple(map(sized, quad)) for quad in quads]) for n, m, quads in places]
+
+
+def reversed_sheets():
+    """Every coefficient reversed: each correction is, where either rounding is given halves too. With every admittance reversed likewise; with both
+    none is. And a sheet that is refused is refused with the same number."""
+    ties = [*telling.factor_ties((0, 1, 2, 3, 900, 901)), *telling.large_factor_ties(), *telling.correction_ties((1, 3)),
+            *telling.beside_correction_ties(), *telling.tied_throughout()]
+    tried = [(t.read_sheet(data)[1], phases) for data, phases in ties]
+    tried += [(tied_sheet(i % 4 == 0), tuple(chance.below(4) << 30 for _ in range(6))) for i in range(80)]
+    tried += [(tied_sheet(i % 2 == 0), random_phases()) for i in range(80)]
+    tried += [(given.sheet(chance, chance.between(1, 6), chance.between(1, 4), chance.between(0, 8)), random_phases()) for _ in range(200)]
+    met = set()
+    for (sheet, phases), frame in product(tried, FRAMES):
+        lines, rows, places = sheet
+        other = lines, [[-admittance for admittance in row] for row in rows], places
+        answers = [t.ocean(12, *[[0] * 91] * 2, write_sheet(*one), phases, frame) for one in (
+            sheet, reversed_sheet(*sheet), other, reversed_sheet(*other))]
+        number, C, S = answers[0]
+        reverse = 0, [*opposite(C)], [*opposite(S)]
+        expect('reversed sheets', (number, answers[1:]), (0, [reverse, reverse, answers[0]]))
+        expect('reversed sheets', t.ocean_corrections(sheet, phases, frame), noting(met)['ocean_corrections'](sheet, phases, frame))
+    expect('reversed sheets', every_half('factor', 'ocean tide') - met, set())
+    numbers = Counter()
+    for sheet in (given.SMALL, *given.faulty_sheets()):
+        two = write_sheet(*sheet), write_sheet(*reversed_sheet(*sheet))
+        for changed, N in product((lambda data: data, lambda data: data[:-1], lambda data: data + b'\0'), (4, 5, 12)):
+            number, other = (t.sheet_test(changed(data), N)[0] for data in two)
+            expect('reversed sheets', other, number)
+            numbers[number] += 1
+    expect('reversed sheets', sorted(numbers), [0, 7, 8, 9])
+    for i in range(4):                                                          # the one count that has no negative
+        least = given.SMALL[0], [[0, 0]], [(2, 2, [tuple(given.spoilt((0,) * 4, i, -(1 << 31)))])]
+        expect('reversed sheets', (reversed_sheet(*least), t.sheet_test(write_sheet(*least), 12)), (least, (8, None)))
+
+
+def turned_bodies():
+    """Both bodies one or two quarter turns further on, or beyond the equator: step one's corrections turn with them, at halves too. So every one but
+    those of C20 and C40 is reversed by a turn."""
+    met = set()
+    turns = (lambda u, v, w: (-v, u, w)), (lambda u, v, w: (-u, -v, w)), (lambda u, v, w: (u, v, -w))
+    tried = [(love, telling.at_a_half(chance, one, love)) for one, love, _ in product(telling.COEFFICIENTS, LOVES, range(8))]
+    small = product(telling.COEFFICIENTS[:5], LOVES, telling.SMALL_HALVES)
+    for love, bodies in (*tried, *((love, telling.at_a_small_half(chance, one, love, goal)) for one, love, goal in small)):
+        number, corrections = t.step_one_corrections(*bodies, love)
+        expect('turned bodies', (number, corrections), noting(met)['step_one_corrections'](*bodies, love))
+        for k, turn in enumerate(turns):
+            number, after = t.step_one_corrections(*((ratio, (kind, *turn(*axes), r)) for ratio, (kind, *axes, r) in bodies), love)
+            wanted = []
+            for n, m, dC, dS in corrections:
+                if k < 2:                                                       # m times the turn
+                    dC, dS = ((dC, dS), (-dS, dC), (-dC, -dS), (dS, -dC))[m * (k + 1) % 4]
+                elif (n - m) % 2:
+                    dC, dS = -dC, -dS
+                wanted.append((n, m, dC, dS))
+            expect('turned bodies', (number, after), (0, wanted))
+    expect('turned bodies', every_half('step one') - met, set())
+
+
+# --- Slips of a rounding ---
+
+def rounding_slips():
+    """The stored calls give every rounding halves of either sign, their whole part even and odd, and tell it from each with a wrong rule there; and
+    both roundings of the ocean tide with one wrong rule."""
+    values.make()
+    answered = [(name, does, field, does(*field)) for name, does, field in values.lent]
+    accepted = [one for one in answered if one[3][0] == 0]
+    met, given_to = set(), defaultdict(set)
+
+    def rule(where, value):
+        given_to[where].add(value)
+        return away(value)
+
+    for functions in (noting(met), rounded_by(rule)):
+        with patch.multiple(t, **functions):
+            expect('rounding slips', [does(*field) == answer for _, does, field, answer in accepted], [True] * len(accepted))
+    expect('rounding slips', every_half(*(where[0] for where in ROUNDINGS)) - met, set())
+    sheets = [one for one in accepted if one[0] == 'ocean_tide']
+
+    def tell(wrong, *names):
+        """Whether an ocean tide differs where the roundings of these names are wrong."""
+        with patch.multiple(t, **rounded_by(lambda where, value: wrong(value) if {*where} & {*names} else away(value))):
+            return any(does(*field) != answer for _, does, field, answer in sheets)
+
+    for where in ROUNDINGS:
+        for wrong in wrong_roundings(where):                                    # a correction shows as it is, a factor by the corrections it gives
+            told = tell(wrong, where[1]) if where[0] == 'factor' else any(wrong(value) != away(value) for value in given_to[where])
+            expect('rounding slips', (where, wrong, told), (where, wrong, True))
+    for wrong in WRONG_ROUNDINGS:
+        expect('rounding slips', (wrong, tell(wrong, 'factor', 'ocean tide')), (wrong, True))
+
+
 def main():
     cases()
     doodson()
@@ -1028,6 +1314,12 @@ def main():
     own_lines(hardest)
     pole_tide()
     day()
+    nearest_counts()
+    reversed_lines()
+    reversed_records()
+    reversed_sheets()
+    turned_bodies()
+    rounding_slips()
     seen = ', '.join(f'{kind} {count}' for kind, count in counts.items())
     errors = ', '.join(f'{kind} {float(error):.6f}' for kind, error in worst.items())
     print(f'ok: {seen}; largest errors: {errors}')

@@ -1,14 +1,15 @@
 """Inputs at which a slip of a rounding, of an order of operations or of a bound shows in an answer.
 
 A slip in step one's order of operations moves a product by a last bit or two. The count of an ordinary product does not change by that; the count
-of a product that is a whole number and a half, or the float next to such a one, does.
+of a product that is a whole number and a half, or the float next to such a one, does. A slip in which way halves go shows at exact halves
+alone: every rounding meets them of either sign, their whole part even and odd (check.py holds the stored calls to that).
 """
 
 from itertools import cycle, product
 from math import asin, floor, inf, nextafter, sqrt
 
 import tides as t
-from given import FAR_OFFSETS, OFFSET_EDGE, placed
+from given import FAR_OFFSETS, OFFSET_EDGE, placed, write_sheet
 
 # --- Step one ---
 
@@ -63,14 +64,32 @@ def moved_to(goal, coefficient, moon, sun, love):
     return None
 
 
-def at_a_half(chance, coefficient, love, which=None):
-    """A Moon and a Sun that pass and whose product is a whole number and a half, or in one case out of two the float next below that."""
+def at_a_goal(chance, coefficient, love, goal_of, which=None):
+    """A Moon and a Sun that pass and whose product is the float that goal_of makes of the product of a pair."""
     while True:
         moon, sun = pair(chance, which)
-        half = floor(product_of(coefficient, moon, sun, love)) + 0.5
-        found = moved_to(chance.one(half, nextafter(half, -inf)), coefficient, moon, sun, love)
+        found = moved_to(goal_of(product_of(coefficient, moon, sun, love)), coefficient, moon, sun, love)
         if found and not any(map(t.body_test, found)):
             return found
+
+
+def at_a_half(chance, coefficient, love, which=None):
+    """A Moon and a Sun whose product is a whole number and a half, of either sign, or in one case out of two the float next to it, nearer zero."""
+    def goal_of(product):
+        half = floor(product) + 0.5
+        return chance.one(half, nextafter(half, 0.0))
+
+    return at_a_goal(chance, coefficient, love, goal_of, which)
+
+
+# Halves of either sign, their whole part even and odd, and the floats next to the first two, nearer zero: half a count more in size, added as
+# floats, makes those 1 and -1.
+SMALL_HALVES = 0.5, -0.5, 1.5, -1.5, nextafter(0.5, 0.0), nextafter(-0.5, 0.0)
+
+
+def at_a_small_half(chance, coefficient, love, goal):
+    """A Moon and a Sun whose product, of degree 2, is this one of SMALL_HALVES. (Some of them no masses reach in degrees 3 and 4.)"""
+    return at_a_goal(chance, coefficient, love, lambda _: goal)
 
 
 def at_the_bound(chance, coefficient, love, goal):
@@ -106,7 +125,8 @@ def sine_phase(value):
 
 
 def tie_phases():
-    """Six phases at which the sum for S22, C22, C21, S21 or C20 is a whole number and a half, of either sign, elastic and anelastic.
+    """Six phases at which the sum for S22, C22, C21, S21 or C20 is a whole number and a half, of either sign, its whole part even and odd, elastic
+    and anelastic.
 
     300, 450700 and 450100 are 4 times an odd number, so that a sine or cosine of 2^27 times an odd number makes a tie.
     """
@@ -119,8 +139,10 @@ def tie_phases():
             yield 1 << 29, angle % t.TURN, 0, 0, 0, 0
             yield angle % t.TURN, 0, 0, 0, 0, 0                         # every diurnal line has the phase tau
             yield (t.UNIT - angle) % t.TURN, 0, 0, 0, 0, 0
-    yield 0, 324511287, 0, 0, 0, 665749929                              # C20 anelastic: -1412.5 and 9862.5 counts
+    yield 0, 324511287, 0, 0, 0, 665749929                              # C20 anelastic: -1412.5, 9862.5, 7387.5 and -3387.5 counts
     yield 0, 1092373643, 0, 0, 0, 2519722585
+    yield 0, 2398086026, 0, 0, 0, 220555754
+    yield 0, 400137965, 0, 0, 0, 2909122905
 
 
 # Phases at which every wave is 0, 1 or -1, and C20 there, anelastic, added up by hand. The tenths by the argument's multiplier:
@@ -164,6 +186,17 @@ def faint_lines():
     yield above, (t.UNIT + FAINT_PHASE, 0, 0, 0, 0, 0), (0, 1600, -1, 0, 0)
     yield by_s, (0, FAINT_PHASE, 0, 0, 0, 0), (-2, 0, 0, 0, 0)
     yield named([245655, 255555]), (FAINT_PHASE // 3, 0, 0, 0, 0, 0), (0, 0, 0, -1500, 1)
+
+
+def near_zero_lines():
+    """Selections and phases: in the anelastic model C20, C21 and S22, then C20, S21 and C22, are -0.7, -0.3 and 0.3 counts."""
+    named = sum(1 << i for i, (number, _, _) in enumerate(t.PRINTED) if number in (165555, 75575, 255555))
+    angle = lambda counts, wanted: round(wanted / counts * t.TURN / 6.283185307179586)
+    for wanted in (-0.7, -0.3, 0.3):                                    # of 471000 by tau + s, -200 by 2 s + 2 N', -1200 by 2 tau
+        diurnal, long_period, semidiurnal = (angle(counts, wanted) for counts in (471000, 200, 1200))
+        for tau, one in ((semidiurnal // 2, diurnal), ((t.UNIT + semidiurnal) // 2, t.UNIT - diurnal)):
+            s = one - tau
+            yield named, (tau % t.TURN, s % t.TURN, 0, 0, (-long_period // 2 - s) % t.TURN, 0)
 
 
 # --- A day ---
@@ -210,14 +243,33 @@ def own_line_ties():
                 yield records, phases
 
 
+def by_bands(phase, amplitudes):
+    """Records and phases at which C20, C21 and C22, then S21 and S22, are minus each of the amplitudes times the sine of the phase."""
+    for amplitude in amplitudes:
+        yield [in_band(0, 0, amplitude), in_band(1, -amplitude, 0), in_band(2, 0, amplitude)], at_s(phase)
+        yield [in_band(1, 0, amplitude), in_band(2, amplitude, 0)], at_s(phase)
+
+
+def band_ties():
+    """Each of the five a whole number and a half, of either sign, the whole part even and odd: 37.5 and 112.5 counts."""
+    return by_bands(sine_phase(3 << 27), (1, -1, 3, -3))
+
+
+def near_zero_records():
+    """Each of the five within a count of zero: -0.47, 0.47 and -0.94 counts."""
+    return by_bands(3212757, (1, -1, 2))
+
+
 def at_a_tie(chance, band, by_sine, beside):
-    """Two records of the band, phases, and the sum that takes ip by this wave: a whole number and a half, or 4 units of 2^-30 beside that.
+    """Two records of the band, phases, and the sum that takes ip by this wave: of either sign, a whole number and a half, or 4 units of 2^-30 less
+    in size.
 
     A unit that a record's part loses before the whole sum is rounded shows. The sum is 100 times another one, which is made to be 2^27, or
-    1/25 less, modulo 2^28.
+    1/25 less in size, modulo 2^28.
     """
     modulus = 1 << 28
-    goal = ((1 << 27) - beside) * pow(25, -1, modulus)
+    above = chance.one_in(2)
+    goal = ((1 << 27) - (beside if above else -beside)) * pow(25, -1, modulus)
     while True:
         phases = 0, chance.below(t.TURN), chance.below(t.TURN), 0, 0, 0
         (a, b), (c, d) = ((t.sine(at), t.cosine(at)) if by_sine else (t.cosine(at), -t.sine(at)) for at in phases[1:3])
@@ -227,9 +279,9 @@ def at_a_tie(chance, band, by_sine, beside):
             continue
         for ip_2 in range(chance.between(-100_000, 90_000), 100_001):
             op_2 = ((goal - part - ip_2 * c) * pow(d, -1, modulus) + modulus // 2) % modulus - modulus // 2
-            if abs(op_2) <= 100_000:
-                sign = -1 if by_sine and band == 2 else 1
-                return [(band, 1, 0, 0, 0, 0, ip, op), (band, 0, 1, 0, 0, 0, ip_2, op_2)], phases, sign * 100 * (part + ip_2 * c + op_2 * d)
+            total = 100 * (part + ip_2 * c + op_2 * d)
+            if abs(op_2) <= 100_000 and (total > 0) == above:
+                return [(band, 1, 0, 0, 0, 0, ip, op), (band, 0, 1, 0, 0, 0, ip_2, op_2)], phases, -total if by_sine and band == 2 else total
 
 
 SUMS = (0, False), (1, True), (1, False), (2, False), (2, True)         # C20, C21, S21, C22, S22: the band, and whether ip is by the sine
@@ -248,6 +300,63 @@ def small_records():
 # A record for each band, that of the diurnal one twice; at the phases of the day above they give these five, which were made with doubles too.
 OWN_RECORDS = [(0, 2, 0, 0, 0, 0, 37, -12), (1, -1, 0, 0, 0, 0, -250, 31), (1, -1, 0, 0, 0, 0, -250, 31), (2, -1, 0, 1, 0, 0, 18, 45)]
 OWN_FIVE = 3095, 6381, -49977, 4839, 277
+
+
+# --- Ocean tide ---
+
+def factor_tie(admittance, wave):
+    """A sheet's bytes and phases: fsin of 15 tides, and fcos of 15 others, is to be the admittance times the wave over 10^6. C21 shows which way the
+    first is rounded, S21 the second.
+
+    Each unit of the factor is 15/64 of a count. One more tide makes the sum 7/64 more in size than a whole number and a half where the factor goes
+    to the whole number next above in size, so 8/64 less where it goes to the one below.
+    """
+    at = sine_phase(wave)
+    above = abs(admittance * wave) // t.MILLION + 1
+    beside = (39 - 15 * above) % 64 * 2**24 // 1074                     # so many 64ths of a count, by a tide whose factor is 1074
+    beside = -beside if admittance * wave < 0 else beside
+    rows = [[admittance, 0, 0], [0, admittance, 0]] * 15 + [[0, 0, 1]]
+    quads = [(0, 0, 1 << 24, 0), (0, 1 << 24, 0, 0)] * 15 + [(beside, beside, 0, 0)]
+    lines = [(1, 0, 0, 0, 0, 0), (0, 1, 0, 0, 0, 0), (0, 0, 0, 0, 0, 0)]
+    return write_sheet(lines, rows, [(2, 1, quads)]), (at % t.TURN, (at - t.UNIT) % t.TURN, 0, 0, 0, 0)
+
+
+def factor_ties(wholes):
+    """Sheets and phases at which a tide's factors are each of these whole numbers and a half, of either sign; then a millionth less in size."""
+    for less, whole, sign in product((0, 1), wholes, (1, -1)):
+        wave = sign * (whole * t.MILLION + 500_000 - less)
+        if sine_phase(wave) is not None:
+            yield factor_tie(1, wave)
+
+
+def large_factor_ties():
+    """As above, the factors 3.5 times an odd wave of nearly 2^30: halves above 2^31 in size, of either sign, their whole part even and odd."""
+    odd = [wave for wave in range(1_073_000_001, 1_073_001_000, 2) if sine_phase(wave) is not None]
+    for wave, admittance in product(odd[:4], (3_500_000, -3_500_000)):
+        yield factor_tie(admittance, wave)
+
+
+def correction_ties(counts):
+    """Sheets and phases at which C21, S21, C22 and S22 are halves of these counts and of their negatives, by the cosine, then by the sine."""
+    for by_sine, phase in ((0, 0), (1, t.UNIT)):
+        for count in counts:
+            one, two = ((0, 0, a, b) if by_sine else (a, b, 0, 0) for a, b in ((count, -count), (-count, count)))
+            sheet = write_sheet([(1, 0, 0, 0, 0, 0)], [[500_000]], [(2, 1, [one]), (2, 2, [two])])
+            yield sheet, (phase, 0, 0, 0, 0, 0)
+
+
+def beside_correction_ties():
+    """Sheets and phases at which C21 and S21 are one unit of 2^-30 less in size than a half, then one more, of either sign."""
+    for (factor, count), sign in product(((233, 2304167), (177, 3033169)), (1, -1)):            # 2^29 - 1, 2^29 + 1
+        sheet = write_sheet([(1, 0, 0, 0, 0, 0)], [[1]], [(2, 1, [(0, 0, sign * count, -sign * count)])])
+        yield sheet, (sine_phase(factor * t.MILLION), 0, 0, 0, 0, 0)
+
+
+def tied_throughout():
+    """A sheet and phases, then with its coefficients reversed: all factors of 32 tides of full size are halves below zero, and C22 and S22 halves,
+    below zero and then above it. With halves up, the first is two counts off."""
+    for count in (1 << 24, -(1 << 24)):
+        yield write_sheet([(1, 0, 0, 0, 0, 0)], [[-2_500_000]] * 32, [(2, 2, [(count,) * 4] * 32)]), (428289553, 0, 0, 0, 0, 0)
 
 
 # --- Solid pole tide ---
@@ -269,18 +378,28 @@ def beside_halves(love, steps, xp, yp):
     return (xp, yp), (yp, -xp)
 
 
-POLE_OFFSETS = (46_000, 294_000), (-123_457, 345_678), (-7, -11), (0, 40), (0, 0)      # the angles that 001 begins with, any, and small ones
+POLE_OFFSETS = (46_000, 294_000), (-123_457, 345_678), (-7, -11), (0, 0)       # the angles that 001 begins with, any, and small ones
 HALVES_NEAR = (0, 123_456, 654_321), (0, -789_123, 321_987), (-1, -234_567, -567_891), (1, 876_543, -543_219)      # steps, xp, yp
 
 
+def each_way(xp, yp):
+    """The offsets, and those with both signs reversed. A half of beside_halves has an even whole part above zero and an odd one below; reversed,
+    the other way about."""
+    return (xp, yp), (-xp, -yp)
+
+
 def pole_calls():
-    """xp, yp and the Love model: those above, the ends, each formula at a half of either sign and a step beside halves; then refused ones.
+    """xp, yp and the Love model: near zero, those above, the ends, each formula at halves, each way, and a step nearer zero; then refused ones.
 
     They tell T-05's rule from each with one number, sign, rounding, end or place changed (check.py holds them to that).
     """
+    for one in (20, -20, 40):                                           # -0.3, 0.3 and -0.6 counts
+        yield 0, one, t.ANELASTIC
+        yield one, 0, t.ANELASTIC
     for love in (t.ELASTIC, t.ANELASTIC):
-        halves = (pair for steps_near in HALVES_NEAR for pair in beside_halves(love, *steps_near))
-        for pair in (*POLE_OFFSETS, *product((OFFSET_EDGE, -OFFSET_EDGE), repeat=2), *halves):
+        halves = [pair for steps_near in HALVES_NEAR[:2] for one in beside_halves(love, *steps_near) for pair in each_way(*one)]
+        beside = [pair for steps_near in HALVES_NEAR[2:] for pair in beside_halves(love, *steps_near)]
+        for pair in (*POLE_OFFSETS, *product((OFFSET_EDGE, -OFFSET_EDGE), repeat=2), *halves, *beside):
             yield *pair, love
     for far, love in zip(FAR_OFFSETS, cycle((t.ELASTIC, t.ANELASTIC))):
         yield far, 12_345, love

@@ -1,4 +1,4 @@
-"""Tide corrections to a gravity field: a second program, written from the description (01, and T-01, T-02, T-04, T-05 and T-06 of 02) alone.
+"""Tide corrections to a gravity field: a second program, written from the description (01, and T-01, T-02, T-04, T-05, T-06 and T-07 of 02) alone.
 
 Coefficients are whole counts of 10^-15. Every call that can refuse answers the refusal number first, 0 where it accepts.
 Whole numbers and Fractions throughout; floats (IEEE binary64) only in step one.
@@ -23,8 +23,12 @@ MILLION = 1_000_000
 # --- Units and the field ---
 
 def nearest(value, divisor=1):
-    """'Units and the field': floor(value/divisor + 1/2), of whole numbers or Fractions; the divisor is above 0."""
-    return (2 * value + divisor) // (2 * divisor)
+    """'Units and the field', by 'Halves away from zero' (02, T-07): the whole number nearest value/divisor, where "halves go away from zero".
+
+    Of whole numbers or Fractions; the divisor is above 0. The size is rounded, its half up; the sign is the value's.
+    """
+    nearest_size = (2 * abs(value) + divisor) // (2 * divisor)
+    return nearest_size if value > 0 else -nearest_size
 
 
 def nearest_float(x):

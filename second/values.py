@@ -13,7 +13,7 @@ These are about a thousand cases, which show each call at its edges. tests/bound
 import struct
 import sys
 from collections import Counter
-from itertools import combinations, product
+from itertools import combinations, cycle, product
 from math import ldexp, nextafter
 from pathlib import Path
 from runpy import run_path
@@ -35,6 +35,7 @@ KINDS = t.RECTANGULAR, t.DIRECTION
 BEYOND = EDGE, EDGE + 1, -EDGE, -EDGE - 1, LEAST_64, -1 - LEAST_64
 
 cases, lines, worded, tally = [], [], [], Counter()
+lent = []                # every call over a field: its name, what it does to a field, and the field
 
 
 def case(kind, call, data, number, values):
@@ -92,6 +93,7 @@ def over_field(N, C, S, call):
     number, *values, after_c, after_s = does(N, C, S)
     lists = struct.pack('<III', N, len(C), len(S)) + struct.pack(f'<{len(C) + len(S)}q', *C, *S)
     case(kind, name, lists + data, number, (*(() if number else values), *after_c, *after_s))
+    lent.append((name, does, (N, C, S)))
     return N, after_c, after_s
 
 
@@ -199,6 +201,10 @@ def solid():
         over_field(*chance.one(ZEROS, given.varied_field(chance, 4)), any_call(LOVES[i % 2]))
     for i, coefficient in enumerate(telling.COEFFICIENTS):
         over_field(*ZEROS, by_bodies(*telling.at_a_half(chance, coefficient, LOVES[i % 2]), LOVES[i % 2]))
+    for letter in 'CS':
+        coefficients = cycle(one for one in telling.COEFFICIENTS[:5] if one[2] == letter)
+        for i, (goal, coefficient) in enumerate(zip(telling.SMALL_HALVES, coefficients)):
+            over_field(*ZEROS, by_bodies(*telling.at_a_small_half(chance, coefficient, LOVES[i % 2], goal), LOVES[i % 2]))
     for love in LOVES:
         for phases in (NONE, (1 << 30, 0, 0, 0, 0, 0), (U32,) * 6, *telling.tie_phases(), *telling.QUARTERS):
             over_field(*ZEROS, by_lines(phases, love))
@@ -258,6 +264,9 @@ def ocean():
         over_field(*given.varied_field(chance, top), ocean_tide(sheet, given.phases(chance), FRAMES[i % 2]))
     for frame in FRAMES:                                                        # degree 1 beside other degrees
         over_field(*given.varied_field(chance, 4), ocean_tide(any_sheet(2, 2, 14, 4), given.phases(chance), frame))
+    ties = *telling.factor_ties((0, 1)), *telling.correction_ties((1, 3)), *telling.beside_correction_ties(), *telling.tied_throughout()
+    for frame, (sheet, phases) in zip(cycle(FRAMES), ties):
+        over_field(*ZEROS, ocean_tide(sheet, phases, frame))
     for phase in (*((k << 29) + d & U32 for k in range(8) for d in (-1, 0, 1)), *telling.WAVE_PHASES):
         _, C, S = over_field(*ZEROS, ocean_tide(given.wave_sheet(), (phase, 0, 0, 0, 0, 0), t.FIGURE))
         assert (C[5], S[5]) == (t.cosine(phase), t.sine(phase))
@@ -270,7 +279,9 @@ def ocean():
 def own_lines(N, C, S, records, phases):
     call = BOUNDARY['own_lines'](records, phases)
     worded.extend(' '.join(map(str, words)) for words in BOUNDARY['words'](((N, C, S), [call])))
-    tally['own_lines', t.own_lines(N, C, S, records, phases)[0]] += 1
+    does = lambda N, C, S: t.own_lines(N, C, S, records, phases)
+    tally['own_lines', does(N, C, S)[0]] += 1
+    lent.append(('own_lines', does, (N, C, S)))
 
 
 def own():
@@ -284,7 +295,8 @@ def own():
     for band in range(3):
         own_lines(*ZEROS, [telling.in_band(band, 3, 5)], telling.at_s(quarter // 2))
         own_lines(*varied(), [telling.in_band(band, 3, 5)] * 2, given.phases(chance))
-    for records, phases in (*list(telling.own_line_ties())[::33], *list(telling.small_records())[3::6]):
+    ties, small = list(telling.own_line_ties())[::33], list(telling.small_records())[3::6]
+    for records, phases in (*ties, *telling.band_ties(), *small, *telling.near_zero_records()):
         own_lines(*ZEROS, records, phases)
     for one in telling.SUMS:
         own_lines(*ZEROS, *telling.at_a_tie(chance, *one, 0)[:2])
@@ -318,7 +330,7 @@ def selections():
         at_lines(t.ALL_LINES ^ (1 << i | 1 << j), chance.one(*LOVES))
     for selection, love in product((0, *given.BANDS, t.ALL_LINES, t.MAJOR_LINES), LOVES):
         over_field(*varied(), by_lines(given.phases(chance), love, selection))
-    for selection, phases, _ in telling.faint_lines():
+    for selection, phases in (*(two for *two, _ in telling.faint_lines()), *telling.near_zero_lines()):
         over_field(*ZEROS, by_lines(phases, t.ANELASTIC, selection))
     for i in range(10):
         over_field(*varied(), by_lines(given.phases(chance), LOVES[i % 2], given.accepted_selection(chance)))
@@ -344,13 +356,14 @@ def pole():
     over_field(*given.varied_field(chance, 60), pole_tide(*given.offsets(chance), t.ANELASTIC))
 
 
+def make():
+    """Every case, in the order in which it is stored."""
+    for part in (numbers, solid, ocean, own, selections, pole):
+        part()
+
+
 def main():
-    numbers()
-    solid()
-    ocean()
-    own()
-    selections()
-    pole()
+    make()
     in_lines = lambda texts: ''.join(text + '\n' for text in texts).encode('ascii')
     files = {'crates/run/stdin': struct.pack('<I', len(cases)) + b''.join(cases), 'crates/run/stdout': in_lines(lines),
              'tests/boundary/stored.txt': in_lines(worded)}

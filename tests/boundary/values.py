@@ -297,10 +297,17 @@ def at_a_half(coefficient, love, which=None):
     return solid_tide(*telling.at_a_half(chance, coefficient, LOVES[love], which), g.phases(chance), g.few_lines(chance), love)
 
 
+def at_a_small_half(coefficient, love, goal):
+    return solid_tide(*telling.at_a_small_half(chance, coefficient, LOVES[love], goal), g.phases(chance), 0, love)
+
+
 def halves():
-    """Counts of step one at a half, for each coefficient and Love model, beside few lines; twelve calls on a field."""
+    """Counts of step one at a half of either sign, for each coefficient and Love model, beside few lines; then those next to zero. Twelve calls on a
+    field."""
     for coefficient, love in product(telling.COEFFICIENTS, range(2)):
         yield from in_row([at_a_half(coefficient, love) for _ in range(HALVES)], 12, ZEROS)
+    small = product(telling.COEFFICIENTS[:5], range(2), telling.SMALL_HALVES)
+    yield from in_row([at_a_small_half(*one) for one in small], 12, ZEROS)
     for coefficient, which in zip(telling.COEFFICIENTS[1:5], (0, 1, 2, 0)):     # C21, S21, C22, S22 where the rounding of kI*Q or kI*P shows
         yield ZEROS, [at_a_half(coefficient, 1, which) for _ in range(HALVES)]
 
@@ -355,7 +362,7 @@ def selections():
     odd = [i for i, (number, one, two) in enumerate(t.PRINTED) if number > 100_000 and one % 2 and two % 2]
     for phases in telling.tie_phases():                                 # one or three odd amplitudes are at a tie at many of them
         yield ZEROS, [call for count in (1, 3) for call in both_models(phases, sum(1 << i for i in chance.some(count, odd)))]
-    for selection, phases, _ in telling.faint_lines():
+    for selection, phases in (*(two for *two, _ in telling.faint_lines()), *telling.near_zero_lines()):
         yield ZEROS, both_models(phases, selection)
     for selection, _ in product((0, t.ALL_LINES, t.MAJOR_LINES, t.ALL_LINES ^ t.MAJOR_LINES, *g.BANDS), range(6)):
         yield g.any_field(chance, chance.between(4, 10)), both_models(g.phases(chance), selection)
@@ -430,7 +437,7 @@ def own_waves():
     for band, place in product(range(3), range(1, 6)):
         records = [(*g.spoilt((band, *g.NONE[1:]), place, n), 98_765, -4321) for n in range(-13, 14)]
         yield from in_row([some_own([one]) for one in records], 9, ZEROS)
-    for records, phases in (*telling.own_line_ties(), *telling.small_records()):
+    for records, phases in (*telling.own_line_ties(), *telling.band_ties(), *telling.small_records(), *telling.near_zero_records()):
         yield ZEROS, [own_lines(records, phases)]
     for one, beside in product(telling.SUMS, (0, 1)):
         yield ZEROS, [own_lines(*telling.at_a_tie(chance, *one, beside)[:2]) for _ in range(4)]
@@ -474,13 +481,14 @@ def offsets_refused():
 
 
 def offsets_alone():
-    """Offsets that tell slips, small ones, one alone at every power of two, and each formula at halves and some steps beside them."""
+    """Offsets that tell slips, small ones, one alone at every power of two, and each formula at halves and some steps beside them, each way."""
     yield from in_row([pole_tide(xp, yp, LOVES.index(love)) for xp, yp, love in telling.pole_calls()], 9, ZEROS, g.varied_field(chance, 4))
     one_alone = [pair for k in range(2, 20) for one in (1 << k, -1 << k) for pair in ((one, 0), (0, one))]
     yield from in_row([call for pair in [*product(range(-3, 4), repeat=2), *one_alone] for call in either(pole_tide, *pair)], 18, ZEROS)
     near = lambda: chance.between(-g.OFFSET_EDGE, g.OFFSET_EDGE - 625)
     for love, steps in product(range(2), (-5, -2, -1, 0, 0, 0, 1, 2)):
-        yield ZEROS, [pole_tide(*pair, love) for _ in range(8) for pair in telling.beside_halves(LOVES[love], steps, near(), near())]
+        beside = [pair for _ in range(8) for pair in telling.beside_halves(LOVES[love], steps, near(), near())]
+        yield ZEROS, [pole_tide(*one, love) for pair in beside for one in telling.each_way(*pair)]
 
 
 def pole_offsets():
@@ -569,22 +577,13 @@ def synthesis():
         yield ZEROS, [ocean_tide(data, (phase, 0, 0, 0, 0, 0), 0)]
 
 
-def wave_of(value, counts):
-    """A millionth of a wave of this many units, as the sine that C21 takes and the cosine that S21 takes, by each pair of counts for C and S."""
-    at = telling.sine_phase(value)
-    if at is not None:
-        data = g.write_sheet([(1, 0, 0, 0, 0, 0), (0, 1, 0, 0, 0, 0)], [[1, 0], [0, 1]] * len(counts),
-                             [(2, 1, [quad for c, s in counts for quad in ((0, 0, c, 0), (0, s, 0, 0))])])
-        yield ZEROS, [ocean_tide(data, (at % t.TURN, (at - t.UNIT) % t.TURN, 0, 0, 0, 0), 0)]
-
-
 def ocean_ties():
-    """Both roundings of the ocean tide at a tie, and one unit before it: that of the sums over lines, then that of the sums over tides."""
-    for factor, rest in product(range(-23, 24, 4), (499_999, 500_000)):                             # a quarter of the factor is added: 1/4, or 2/4
-        yield from wave_of(factor * t.MILLION + rest, [(1 << 24, 1 << 24)] * 16)
-    for factor, count in ((233, 2304167), (256, 1 << 21), (177, -3033169), (256, -(1 << 21))):      # 2^29 - 1, 2^29, -2^29 - 1, -2^29
-        for near in range(4):
-            yield from wave_of(factor * t.MILLION + near, [(count, count)])
+    """Both roundings of the ocean tide at halves of either sign and a unit beside them: that of the sums over lines, then that of the sums over
+    tides."""
+    factors = *telling.factor_ties((0, 1, 2, 3, 5, 6, 21, 22, 23, 500, 900, 901, 1072)), *telling.large_factor_ties()
+    corrections = *telling.correction_ties((1, 3, 5, 255, 257, (1 << 24) - 1, (1 << 24) - 3)), *telling.beside_correction_ties()
+    for data, phases in (*factors, *corrections, *telling.tied_throughout()):
+        yield ZEROS, either(ocean_tide, data, phases)
 
 
 def waves():
