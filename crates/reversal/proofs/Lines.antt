@@ -34,10 +34,10 @@ use Rattle.reversal.specs.Reversal.{reversedLine, reversedRecord, Opposi
 use Rattle.reversal.proofs.Written.{at-opposite, opposite-calls}
 
 -- ---- any lines
-abbrev turned : Taken → Taken
-turned t = record { cosine = negℤ (t .cosine); sine = negℤ (t .sine) }
+abbrev reversedTaken : Taken → Taken
+reversedTaken t = record { cosine = negℤ (t .cosine); sine = negℤ (t .sine) }
 
-taken-reversed : (b : Band) (k : Coefficient) (ip op : ℤ) → ofBand b k (negℤ ip) (negℤ op) ≡ turned (ofBand b k ip op)
+taken-reversed : (b : Band) (k : Coefficient) (ip op : ℤ) → ofBand b k (negℤ ip) (negℤ op) ≡ reversedTaken (ofBand b k ip op)
 unfolding ofBand ofLongPeriod ofDiurnal ofSemidiurnal
 taken-reversed LongPeriod C20 ip op = refl
 taken-reversed LongPeriod C21 ip op = refl

@@ -35,8 +35,8 @@ nearest-below a n l = nearest-reversed (pos a) n l ∙ ap negℤ (nearest-above 
 
 -- ---- the nearest is within one half, and away from zero where it is a half; no other whole number is
 -- the same of both numbers with the other sign
-turned : (z : ℤ) (n : ℕ) (r : ℤ) → NearestTo z n r → NearestTo (negℤ z) n (negℤ r)
-turned z n r h =
+nearest-to-reversed : (z : ℤ) (n : ℕ) (r : ℤ) → NearestTo z n r → NearestTo (negℤ z) n (negℤ r)
+nearest-to-reversed z n r h =
     let off : natAbs (negℤ r *ℤ pos n -ℤ negℤ z) ≡ natAbs (r *ℤ pos n -ℤ z) =
     ap natAbs (equal (⊝ (! 0) ⊗ ! 1 ⊖ ⊝ (! 2)) (⊝ (! 0 ⊗ ! 1 ⊖ ! 2)) (r ∷ pos n ∷ z ∷ []) (omega arith)) ∙ abs-neg (r *ℤ pos n -ℤ z) in
     record { near = rw off (h .near); away = rw (off, abs-neg z, abs-neg r) (h .away) }
@@ -80,12 +80,12 @@ only-above a n (negsuc k) l h =
 pub is-nearest : (z : ℤ) (n : ℕ) → 0 < n → NearestTo z n (nearest z n)
 unfolding nearest
 is-nearest (pos a) n l = above a n l
-is-nearest (negsuc a) n l = turned (pos (suc a)) n (pos (halfUp (suc a) n)) (above (suc a) n l)
+is-nearest (negsuc a) n l = nearest-to-reversed (pos (suc a)) n (pos (halfUp (suc a) n)) (above (suc a) n l)
 
 pub only-nearest : (z : ℤ) (n : ℕ) (r : ℤ) → 0 < n → NearestTo z n r → r ≡ nearest z n
 unfolding nearest
 only-nearest (pos a) n r l h = only-above a n r l h
-only-nearest (negsuc a) n r l h = sym (negℤ-negℤ r) ∙ ap negℤ (only-above (suc a) n (negℤ r) l (turned (negsuc a) n r h))
+only-nearest (negsuc a) n r l h = sym (negℤ-negℤ r) ∙ ap negℤ (only-above (suc a) n (negℤ r) l (nearest-to-reversed (negsuc a) n r h))
 
 -- the nearest is within one half
 pub nearest-near : (z : ℤ) (n : ℕ) → 0 < n → 2 * natAbs (nearest z n *ℤ pos n -ℤ z) ≤ n
