@@ -19,7 +19,7 @@ fn halved(q: u64, h: u64) -> i64
     (((q >> h) + 1) / 2) as i64
 }
 
-// The digits of the float with the bits b, 53 of them: its size, but for the point.
+// The 53 digits of the float with the bits b, the first of which no bit holds.
 fn digits_of(b: u64) -> u64
     ensures { λ q. ⌜ q ≡ 2 ^ 52 + b % 2 ^ 52 ⌝ }
 {

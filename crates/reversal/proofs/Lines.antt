@@ -1,12 +1,11 @@
 -- A line's term has the sign of its amplitudes, so that sums and corrections of reversed lines are those of the lines with the other sign: any lines, the
 -- printed ones, own records.
-use mathlib.Core.Bool.{Bool, true, false, cond, _&&_}
+use mathlib.Core.Bool.{Bool, true, false, cond}
 use mathlib.Core.List.{List, [], _∷_, map}
 use mathlib.Core.Path.{_≡_, refl, sym, ap, _∙_}
 use Prim.Native.Nat.{ℕ, zero, suc, _^_, _<_}
 use native.Mathlib.Omega.{arith}
-use lib.Dec.{leb}
-use lib.IntN.{ℤ, pos, negℤ, natAbs, _+ℤ_, _*ℤ_}
+use lib.IntN.{ℤ, pos, negℤ, _+ℤ_, _*ℤ_}
 use lib.ListN.{length, length-map, getD, List·getD-map}
 use Rattle.arguments.specs.declared.Phases.{Phases}
 use Rattle.bands.specs.declared.Band.{Band}
@@ -24,7 +23,6 @@ use Rattle.selection.specs.Selection.{names, selected}
 use Rattle.step_two.specs.StepTwo.{selectedSum, corrections}
 use Rattle.surfgimlet.specs.Calls.{placesC, placesS, fiveCorrected, ownLinesRefusal, ownLines}
 use Rattle.wave.specs.Wave.{sin, cos}
-use Rattle.whole.specs.Sum.{allTo}
 use Rattle.whole.proofs.Counted.{all-same}
 use Rattle.whole.proofs.Parts.{abs-neg}
 use Rattle.whole.proofs.Ring.{equal, !, ⊝, _⊕_, _⊗_}

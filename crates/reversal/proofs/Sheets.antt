@@ -1,27 +1,25 @@
 -- A reversed sheet has the factors of the sheet, so that each sum over tides, and each correction, has the other sign; and it is refused as the sheet is, since
 -- every test of a coefficient is of its size.
-use mathlib.Core.Bool.{Bool, true, false, cond, _&&_, _||_}
+use mathlib.Core.Bool.{Bool, true, false, cond}
 use mathlib.Core.List.{List, [], _∷_}
 use mathlib.Core.Path.{_≡_, refl, ap, _∙_}
 use Prim.Native.Nat.{ℕ, _+_, _-_, _^_, _<_}
 use native.Mathlib.Omega.{arith}
-use lib.Dec.{leb, ltb, eqb}
+use lib.Dec.{leb}
 use lib.IntN.{ℤ, pos, negℤ, natAbs, _+ℤ_, _*ℤ_}
-use lib.ListN.{length}
 use Rattle.arguments.specs.declared.Phases.{Phases}
 use Rattle.choices.specs.declared.Frame.{Frame}
 use Rattle.field.specs.Field.{fieldRefusal}
-use Rattle.limits.specs.Limits.{isLineCount, isTideCount, isPlaceCount, isMultiplier, isRowTotal, isSheetDegree}
+use Rattle.limits.specs.Limits.{isMultiplier, isRowTotal}
 use Rattle.ocean.specs.Ocean.{dC, dS}
 use Rattle.places.specs.Places.{placeSum, skipped, unlessSkipped, correction, indexOf}
 use Rattle.refusals.specs.Outcome.{firstOf}
 use Rattle.sheet.specs.Accepted.{shaped, lineValid, rowValid, countsValid, sZero, placeValid, precedes, ascending, valid, reached, ownRefusal, sheetRefusal}
-use Rattle.sheet.specs.Sheet.{lineCount, tideCount, placeCount, multiplier, multipliers, admittance, degree, order, coefficient}
+use Rattle.sheet.specs.Sheet.{lineCount, tideCount, placeCount, multiplier, multipliers, admittance, degree, coefficient}
 use Rattle.surfgimlet.specs.Calls.{oceanRefusal, oceanTide}
 use Rattle.tides.specs.Tides.{linePhase, lineSum, factor, fcos, fsin}
 use Rattle.wave.specs.Wave.{sin, cos}
 use Rattle.whole.specs.Nearest.{nearest}
-use Rattle.whole.specs.Sum.{weightTo, allTo}
 use Rattle.whole.proofs.Counted.{all-same, weight-same}
 use Rattle.whole.proofs.Parts.{abs-neg}
 use Rattle.whole.proofs.Ring.{equal, !, ⊝, _⊕_, _⊗_}

@@ -10,7 +10,7 @@ use lib.Dec.{ltb}
 use lib.IntN.{ℤ, pos, negsuc, negℤ, natAbs, _-ℤ_}
 use lib.ListN.{length, List·getD-eq-default}
 use Rattle.sheet.specs.Accepted.{ownRefusal}
-use Rattle.sheet.specs.Sheet.{lineCount, lineStart, tidesStart, tideCount, rowStart, placesStart, placeCount, placeStart, sheetEnd, multiplier, admittance, degree, order, coefficient}
+use Rattle.sheet.specs.Sheet.{lineCount, lineStart, tidesStart, tideCount, rowStart, placesStart, placeCount, placeStart, multiplier, admittance, degree, order, coefficient}
 use Rattle.sheet.proofs.Acceptance.{Accepted, accepted}
 use Rattle.whole.proofs.Listed.{listed, listed-length, at-listed}
 use Rattle.whole.proofs.Parts.{same, difference, abs-neg}

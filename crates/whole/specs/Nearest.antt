@@ -7,7 +7,7 @@ use lib.IntN.{ℤ, pos, negsuc, negℤ, natAbs, _-ℤ_, _*ℤ_}
 abbrev pub halfUp : ℕ → ℕ → ℕ
 halfUp a n = (2 * a + n) / (2 * n)
 
--- the whole number nearest z / n: its size is that of z / n, a half going up, and its sign is z's
+-- the whole number nearest z / n: the size of z / n is rounded, a half up, and the sign is z's
 unfoldable pub nearest : ℤ → ℕ → ℤ
 nearest (pos a) n = pos (halfUp a n)
 nearest (negsuc a) n = negℤ (pos (halfUp (suc a) n))
