@@ -54,7 +54,7 @@ def main():
         c, s = map(kind, field())
         expect('own lines', (raised(unit.own_lines, 4, c, s, [LINE, (1, 0, 0, 0, 0, 0, 0, -1)], ZERO), c[4], s[4]), (None, 400, 300))
         expect('none of them', (raised(unit.own_lines, 4, c, s, [], ZERO), c[4], s[4]), (None, 400, 300))
-        expect('pole tide', (raised(unit.pole_tide, 4, c, s, 10 ** 6, -50, unit.ELASTIC), c[4], s[4]), (None, -1289600, 236))
+        expect('pole tide', (raised(unit.pole_tide, 4, c, s, 10 ** 6, -50, unit.ELASTIC), c[4], s[4]), (None, -1289600, 235))
         kept = list(c), list(s)
         expect('a pole beyond an arcsecond', raised(unit.pole_tide, 4, c, s, 0, -10 ** 6 - 1, unit.ANELASTIC), 15)
         expect('a pole at -2^63', raised(unit.pole_tide, 4, c, s, -2 ** 63, 0, unit.ANELASTIC), 15)
