@@ -6,7 +6,7 @@ use mathlib.Core.Path.{_≡_, refl, sym, ap, _∙_}
 use Prim.Native.Nat.{ℕ, zero, suc, _^_, _<_}
 use native.Mathlib.Omega.{arith}
 use lib.IntN.{ℤ, pos, negℤ, _+ℤ_, _*ℤ_}
-use lib.ListN.{length, length-map, getD, List·getD-map}
+use lib.ListN.{length, length-map, List·getD-map}
 use Rattle.arguments.specs.declared.Phases.{Phases}
 use Rattle.bands.specs.declared.Band.{Band}
 use Rattle.bands.specs.declared.Band.the-variants.{Diurnal, LongPeriod, Semidiurnal}
@@ -19,7 +19,7 @@ use Rattle.lines.specs.Lines.{linePhase, printedLine}
 use Rattle.own.specs.declared.OwnLine.{OwnLine}
 use Rattle.own.specs.Own.{multipliersOf, lineOf, inRange, none, recordAt, recordsRefusal, ownPhase, ownSum, ownCorrections}
 use Rattle.refusals.specs.Outcome.{firstOf}
-use Rattle.selection.specs.Selection.{names, selected}
+use Rattle.selection.specs.Selection.{names, withoutAmplitudes, selected}
 use Rattle.step_two.specs.StepTwo.{selectedSum, corrections}
 use Rattle.surfgimlet.specs.Calls.{placesC, placesS, fiveCorrected, ownLinesRefusal, ownLines}
 use Rattle.wave.specs.Wave.{sin, cos}
@@ -83,7 +83,7 @@ selected-reversed : (selection : ℕ) (lines : ℕ → Line) (i : ℕ) → selec
 unfolding selected
 selected-reversed selection lines i = by-test (names selection i)
   where
-    by-test : (t : Bool) → cond t (reversedLine (lines i)) (record { band = lines i .band; ip = pos 0; op = pos 0 }) ≡ reversedLine (cond t (lines i) (record { band = lines i .band; ip = pos 0; op = pos 0 }))
+    by-test : (t : Bool) → cond t (reversedLine (lines i)) (withoutAmplitudes (lines i)) ≡ reversedLine (cond t (lines i) (withoutAmplitudes (lines i)))
     by-test true = refl
     by-test false = refl
 

@@ -7,7 +7,7 @@ use native.Mathlib.Omega.{arith}
 use borrow.Author.Tests.{eqb-true, eqb-false, ltb-true, ltb-false}
 use lib.Dec.{eqb, ltb}
 use lib.IntN.{ℤ, pos, negℤ, _+ℤ_, _-ℤ_}
-use lib.ListN.{length, getD, List·getD-eq-default}
+use lib.ListN.{length, List·getD-eq-default}
 use Rattle.demands.specs.Demands.{at, gained}
 use Rattle.field.specs.Added.{corrected, added, addedAt}
 use Rattle.field.proofs.Added.{added-length, added-same}
@@ -53,7 +53,7 @@ module _ (places : ℕ → ℕ) (d : ℕ → ℤ) (l : List ℤ) where
           rw (corrected-elsewhere m′ (places n) (opposite n) k apart, corrected-elsewhere m (places n) (d n) k apart) before
 
   -- past the end nothing stands, before or after
-  pub gained-opposite : (n k : ℕ) → gained l (added places opposite n l) k ≡ negℤ (gained l (added places d n l) k)
+  gained-opposite : (n k : ℕ) → gained l (added places opposite n l) k ≡ negℤ (gained l (added places d n l) k)
   gained-opposite n k = by-test (ltb k (length l)) refl
     where
       outside : (e : ℕ → ℤ) → length l ≤ k → at (added places e n l) k ≡ at l k
