@@ -11,7 +11,8 @@
  *
  * Every call marked SURFGIMLET_ANSWER answers 0, or the number of a refusal: the first that applies in the order printed
  * at the call. A refused call changes nothing it was lent, so an answer that nobody looks at may be a field without its
- * tide: compilers that can warn of it do.
+ * tide: compilers that can warn of it do. Those that make an hour are marked too, for one that nobody takes is lost; the one
+ * of them that can refuse leaves its number in *answer.
  *
  * No call allocates, locks, keeps anything between calls, writes a file or fails to return; calls on different memory may
  * run at the same time.
@@ -24,14 +25,14 @@
  *   gcc's -ffast-math at LINK time changes it (subnormals become 0): leave that out where the program is linked.
  * Nothing else is owed: any numbers and bytes may be given.
  */
-#ifndef SURFGIMLET_H
-#define SURFGIMLET_H
+#ifndef SURFGIMLET_HEADER
+#define SURFGIMLET_HEADER
 
 #include <stddef.h>
 #include <stdint.h>
 
 /* major * 1,000,000 + minor * 1,000 + patch; surfgimlet_version answers that of the library. */
-#define SURFGIMLET_VERSION 3001000
+#define SURFGIMLET_VERSION 4000000
 
 /* Where the compiler can, it warns of an answer that is not used. */
 #if defined(__cplusplus) && __cplusplus >= 201703L
@@ -80,7 +81,7 @@ static inline const char *surfgimlet_words(uint32_t answer)
     case SURFGIMLET_RECORD_VALUE: return "an own line has a multiplier outside -13..13, a first one not 0, 1 or 2, or an amplitude beyond 100,000";
     case SURFGIMLET_SELECTION_VALUE: return "the selection has a bit above 48, which stands for no line";
     case SURFGIMLET_POLE_OFFSET: return "a pole offset is outside -1,000,000..1,000,000 micro-arcseconds";
-    case SURFGIMLET_NO_SUCH_CHOICE: return "a choice, or a body's kind, is none of its numbers";
+    case SURFGIMLET_NO_SUCH_CHOICE: return "a choice, a body's kind or an argument's number is none of its numbers";
     default: return "no answer of this unit";
     }
 }
@@ -95,6 +96,12 @@ static inline const char *surfgimlet_words(uint32_t answer)
 #define SURFGIMLET_MEAN_TIDE 2u
 #define SURFGIMLET_RECTANGULAR 0u /* kinds of a body's place */
 #define SURFGIMLET_DIRECTION 1u
+#define SURFGIMLET_TAU 0u /* arguments, in the order of surfgimlet_phases */
+#define SURFGIMLET_S 1u
+#define SURFGIMLET_H 2u
+#define SURFGIMLET_P 3u
+#define SURFGIMLET_NP 4u
+#define SURFGIMLET_PS 5u
 
 #ifdef __cplusplus
 extern "C" {
@@ -105,6 +112,14 @@ extern "C" {
 typedef struct {
     uint32_t tau, s, h, p, np, ps;
 } surfgimlet_phases;
+
+/* An hour: six phases, and the cosines and sines of the 49 printed lines at them, in units of 2^-30, line i at [i]. It is
+ * 416 bytes without a gap. The caller keeps it and makes it by the three calls below; values written into it by hand are
+ * used as they stand. */
+typedef struct {
+    surfgimlet_phases phases;
+    int32_t cosines[49], sines[49];
+} surfgimlet_hour;
 
 /* A body: ratio, its mass in Earth masses (Moon 0.0123000, Sun 332946), and its place in geocentric, Earth-fixed axes: x to
  * Greenwich, y to 90 degrees east, z north. Rectangular: x, y, z and the distance r in metres, r worked out from x, y, z
@@ -126,10 +141,29 @@ typedef struct {
 /* The version of the library, as SURFGIMLET_VERSION. */
 uint32_t surfgimlet_version(void);
 
+/* An hour, made once for an epoch and used for any number of fields. After any of these calls in any order, from the start,
+ * an hour's cosines and sines are those of its phases. */
+
+/* Answered: the hour of all phases zero. */
+SURFGIMLET_ANSWER surfgimlet_hour surfgimlet_start_hour(void);
+
+/* Answered: the hour of these phases; nothing of an earlier hour is in it. */
+SURFGIMLET_ANSWER surfgimlet_hour surfgimlet_set_hour(surfgimlet_phases phases);
+
+/* One phase moved by a signed amount, wrapping round the turn of 2^32: hour = surfgimlet_move_hour(hour, SURFGIMLET_S, ..).
+ * Given: an hour; which argument; the amount.
+ * Answered: the hour moved; in *answer 0, or 100. Where it is 100 the hour comes back as it was given.
+ * The lines that have the argument get the cosines and sines of the new phases, the others keep theirs, whose phase has not
+ * changed: so a move costs less than a set, little where few lines have the argument. In an hour written by hand, the lines
+ * without the argument keep what was written.
+ * Refused: 100. */
+SURFGIMLET_ANSWER surfgimlet_hour surfgimlet_move_hour(surfgimlet_hour hour, uint32_t argument, int32_t amount, uint32_t *answer);
+
 /* Solid tide: what the Moon and the Sun raise (step one, eqs. 1 to 7), and what the printed lines that a selection names
  * add to it (step two, Tables 6.2). C20 must be zero-tide. Bit i of a selection stands for line i, the index 0..48 that
  * surfgimlet_find_line answers; 0 names no line.
- * Given: a field in counts, n its degree, the lengths in entries; the Moon, the Sun; a Love model; the phases; a selection.
+ * Given: a field in counts, n its degree, the lengths in entries; the Moon, the Sun; a Love model; the hour, of which the
+ * cosines and sines are read, and not the phases; a selection.
  * Done: the corrections of both steps are added as one: those of degree 2, of degree 3 and of degree 4 to order 2, without
  * the permanent part of C20, and what the lines named, and no others, add to C20, C21, S21, C22 and S22.
  * Answered: in *lines, how many lines are named; the long-period ones count in the elastic model too, which has no
@@ -137,7 +171,7 @@ uint32_t surfgimlet_version(void);
  * Refused: 100; 1, 2; 14; the Moon's 3, 4, 5; the Sun's 3, 4, 5; 6, tested before the permanent part is taken off. */
 SURFGIMLET_ANSWER uint32_t surfgimlet_solid_tide(uint32_t n, int64_t *c, size_t c_length, int64_t *s, size_t s_length,
                                                  surfgimlet_body moon, surfgimlet_body sun, uint32_t love_model,
-                                                 surfgimlet_phases phases, uint64_t selection, uint32_t *lines);
+                                                 surfgimlet_hour hour, uint64_t selection, uint32_t *lines);
 
 /* Two selections: all 49 lines; and those that have an anelastic amplitude, in phase or out of phase, of at least ten
  * tenths of 10^-12 without its sign, which are 21. */

@@ -1,9 +1,10 @@
-"""Runs the cases of the description (01, and T-01, T-02, T-04, T-05, T-06 and T-07 of 02) and its bounds on the second program; prints one line."""
+"""Runs the cases of the description (01, and T-01, T-02 and T-04 to T-08 of 02) and its bounds on the second program; prints one line."""
 
 import struct
 from collections import Counter, defaultdict
 from decimal import ROUND_HALF_UP, Decimal
 from fractions import Fraction
+from functools import lru_cache
 from itertools import combinations, product
 from math import atan2, ceil, cos, factorial, floor, hypot, inf, ldexp, nan, nextafter, pi, sin, sqrt, trunc
 from operator import add, neg
@@ -16,7 +17,7 @@ import values
 from chance import Chance
 from given import NONE, U32, write_sheet
 
-chance = Chance(19960621)
+chance, ways = Chance(19960621), Chance(19960626)
 counts = Counter()
 worst = Counter()           # largest error seen, per kind
 LOVES = (t.ELASTIC, t.ANELASTIC)
@@ -37,6 +38,11 @@ def within(kind, error, bound, strict=False):
 
 def random_phases():
     return given.phases(chance)
+
+
+def reached(phases):
+    """A record that is brought to these phases."""
+    return given.hour_after(given.steps_to(ways, phases))
 
 
 def random_field(N):
@@ -128,8 +134,8 @@ def rounded_by(rule):
             corrections.append((n, m, dC - (t.PERMANENT[love] if (n, m) == (2, 0) else 0), dS))
         return number, corrections or None
 
-    def step_two_corrections(phases, love, selection):
-        return each(['step two'], FIVE, t.step_two_sums(phases, love, selection, t.sine, t.cosine), 1 << 30)
+    def step_two_corrections(hour, love, selection):
+        return each(['step two'], FIVE, t.step_two_sums(hour, love, selection), 1 << 30)
 
     def own_line_corrections(records, phases):
         return each(['own lines'], FIVE, t.line_sums(records, phases, t.sine, t.cosine), 1 << 30)
@@ -256,7 +262,7 @@ def cases():
     expect('P', t.move_c20(0, t.TIDE_FREE, t.MEAN, t.ANELASTIC), (0, -18114804))
     listing = b'model C20 C21 S21 C22 S22\nelastic 0 0 450700 -1500 0\nanelastic 10100 0 450100 -1500 0\n'
     expect('P', t.steptwo_program(bytes(24)), listing)                                                      # P7
-    expect('P', t.step_two_corrections((1 << 30, 0, 0, 0, 0, 0), t.ANELASTIC, t.ALL_LINES), (10100, 450100, 0, 1500, 0))    # P8
+    expect('P', t.step_two_corrections(t.set_hour((1 << 30, 0, 0, 0, 0, 0)), t.ANELASTIC, t.ALL_LINES), (10100, 450100, 0, 1500, 0))   # P8
     sheet = write_sheet([(2, 0, 0, 0, 0, 0)], [[1_000_000]], [(2, 2, [(1000, 0, 0, -500)])])                # P9
     expect('P', len(sheet), 34)
     for tau, wanted in ((0, (1000, 0)), (1 << 29, (0, -500))):
@@ -269,7 +275,7 @@ def cases():
         expect('cases', t.steptwo_program(bytes(size)), b'refused\n')
     expect('cases', t.field_test(4, [0] * 15, [0] * 15), 0)
     for c, s in ((14, 15), (15, 14), (14, 14)):
-        expect('cases', t.solid_tide(4, [7] * c, [8] * s, MOON, SUN, t.ELASTIC, NONE, t.ALL_LINES), (1, None, [7] * c, [8] * s))
+        expect('cases', t.solid_tide(4, [7] * c, [8] * s, MOON, SUN, t.ELASTIC, given.START, t.ALL_LINES), (1, None, [7] * c, [8] * s))
 
 
 # --- Doodson numbers and lines ---
@@ -417,19 +423,20 @@ def table_6_2b():
 def step_two():
     for i in range(250):
         phases, N = random_phases(), 4 if i % 5 else chance.between(4, 60)
+        hour = reached(phases)
         for love in LOVES:
-            five = t.step_two_corrections(phases, love, t.ALL_LINES)
+            five = t.step_two_corrections(hour, love, t.ALL_LINES)
             for value, real in zip(five, by_complex(printed(love), phases), strict=True):
                 within('step two by doubles', abs(value - real), 1, strict=True)
-            check_solid(telling.pair(chance), love, phases, t.ALL_LINES, five, t.step_two_exact(phases, love, t.ALL_LINES), N)
+            check_solid(telling.pair(chance), love, hour, t.ALL_LINES, five, t.step_two_exact(phases, love, t.ALL_LINES), N)
             assert love == t.ANELASTIC or five[0] == 0
     for phases, c20 in telling.QUARTERS.items():
-        expect('step two', [t.step_two_corrections(phases, love, t.ALL_LINES)[0] for love in LOVES], [0, c20])
+        expect('step two', [t.step_two_corrections(t.set_hour(phases), love, t.ALL_LINES)[0] for love in LOVES], [0, c20])
     for phases in telling.tie_phases():
         ties = 0
         for love in LOVES:
             sums = t.line_sums(t.printed_records(love), phases, t.sine, t.cosine)
-            for value, total in zip(t.step_two_corrections(phases, love, t.ALL_LINES), sums, strict=True):
+            for value, total in zip(t.step_two_corrections(t.set_hour(phases), love, t.ALL_LINES), sums, strict=True):
                 if total % t.UNIT == t.UNIT // 2:
                     expect('step two', (abs(value), value > 0), ((abs(total) >> 30) + 1, total > 0))        # the half's size goes up
                     ties += 1
@@ -457,37 +464,47 @@ def permanent():
 WAVES = (t.sine, t.cosine), (t.exact_sine_numerator, t.exact_cosine_numerator)
 
 
-def line_parts(phases, love, sin, cos):
-    """What each printed line alone gives the five, in counts times the unit of sin and cos: 01's rules, by the first digit of the line's number."""
-    parts = []
-    for number, one, two in t.PRINTED:
+def line_waves(phases, sin, cos):
+    """The sine and the cosine of each printed line, by the digits of its number."""
+    for number, _, _ in t.PRINTED:
         first, *others = map(int, f'{number:06d}')
         phase = first * phases[0] + sum((digit - 5) * argument for digit, argument in zip(others, phases[1:], strict=True))
-        wave, anelastic = (sin(phase), cos(phase)), love == t.ANELASTIC
-        by_sine, by_cosine = (100 * (two if anelastic else one) * value for value in wave)
-        long_period = 100 * one * wave[1] - 100 * two * wave[0] if anelastic else 0
-        parts.append([(long_period, 0, 0, 0, 0), (0, by_sine, by_cosine, 0, 0), (0, 0, 0, by_cosine, -by_sine)][first])
+        yield sin(phase), cos(phase)
+
+
+def line_parts(waves, love):
+    """What each printed line alone gives the five by its sine and cosine, in counts times their unit: 01's rules, by its number's first digit."""
+    parts, anelastic = [], love == t.ANELASTIC
+    for (number, one, two), (sine, cosine) in zip(t.PRINTED, waves, strict=True):
+        by_sine, by_cosine = (100 * (two if anelastic else one) * value for value in (sine, cosine))
+        long_period = 100 * one * cosine - 100 * two * sine if anelastic else 0
+        parts.append([(long_period, 0, 0, 0, 0), (0, by_sine, by_cosine, 0, 0), (0, 0, 0, by_cosine, -by_sine)][number // 100_000])
     return parts
+
+
+def named_sums(parts, selection):
+    """The five sums of the parts of the lines that the selection's binary digits name."""
+    digits = f'{selection:b}'[::-1]
+    return [sum(parts[i][which] for i, digit in enumerate(digits) if digit == '1') for which in range(5)]
 
 
 def check_selections(chosen, phases, love, N=4):
     """Selections, each with some bodies on a field: each correction against the parts of the lines that its binary digits name, those of the recipe
     rounded once and the exact ones. Answers the fives."""
-    parts, fives = [line_parts(phases, love, *wave) for wave in WAVES], []
+    parts, fives, hour = [line_parts(line_waves(phases, *wave), love) for wave in WAVES], [], reached(phases)
     for selection in chosen:
-        digits = f'{selection:b}'[::-1]
-        sums, exact = ([sum(part[i][which] for i, digit in enumerate(digits) if digit == '1') for which in range(5)] for part in parts)
+        sums, exact = (named_sums(part, selection) for part in parts)
         exact = tuple(Fraction(total, t.EXACT_DENOMINATOR) for total in exact)
         five = tuple(away(Fraction(total, 1 << 30)) for total in sums)
-        expect('selections', (t.step_two_corrections(phases, love, selection), t.step_two_exact(phases, love, selection)), (five, exact))
-        check_solid(telling.pair(chance), love, phases, selection, five, exact, N)
+        expect('selections', (t.step_two_corrections(hour, love, selection), t.step_two_exact(phases, love, selection)), (five, exact))
+        check_solid(telling.pair(chance), love, hour, selection, five, exact, N)
         fives.append(five)
     return fives
 
 
 def hard_selections(phases, love):
     """For each of the five and each sign, the lines whose waves err with that sign there: no selection's sum lies further from its exact one."""
-    kept, exact = (line_parts(phases, love, *wave) for wave in WAVES)
+    kept, exact = (line_parts(line_waves(phases, *wave), love) for wave in WAVES)
     for which, sign in product(range(5), (1, -1)):
         errors = [sign * (a[which] * t.EXACT_DENOMINATOR - b[which] * t.UNIT) for a, b in zip(kept, exact, strict=True)]
         yield sum(1 << i for i, error in enumerate(errors) if error > 0)
@@ -536,7 +553,7 @@ def selections(hardest):
     for (sin, cos), love, _ in product(WAVES, LOVES, range(25)):                # nothing rounded: disjoint selections add up
         phases, one, two = random_phases(), given.accepted_selection(chance), given.accepted_selection(chance)
         two &= ~one
-        sums = [t.step_two_sums(phases, love, selection, sin, cos) for selection in (one, two, one | two)]
+        sums = [t.step_two_sums(t.worked_out(phases, sin, cos), love, selection) for selection in (one, two, one | two)]
         expect('selections', tuple(map(add, *sums[:2])), sums[2])
     # every selection's bound, from the table: two units of 2^-30 for each wave, and the rounding's half count
     for love, band in product(LOVES, range(3)):
@@ -561,7 +578,7 @@ def selection_refusals(alone):
     def answer(number, selection):
         N, love = chance.one(4, 4, 12), chance.one(*LOVES)
         C, S = random_field(N)
-        got, lines, C2, S2 = t.solid_tide(N, C, S, *telling.pair(chance), love, random_phases(), selection)
+        got, lines, C2, S2 = t.solid_tide(N, C, S, *telling.pair(chance), love, reached(random_phases()), selection)
         expect('selections', (got, lines), (number, None) if number else (0, f'{selection:b}'.count('1')))
         assert number == 0 or (C2, S2) == (C, S)
 
@@ -671,7 +688,7 @@ def own_lines(hardest):
         expect('own lines', check_own(records, phases)[which], size if total > 0 else -size)
     for love, _ in product(LOVES, range(60)):                                   # the printed lines, lent
         phases = random_phases()
-        expect('own lines', check_own(printed(love), phases), t.step_two_corrections(phases, love, t.ALL_LINES))
+        expect('own lines', check_own(printed(love), phases), t.step_two_corrections(t.set_hour(phases), love, t.ALL_LINES))
     own_line_refusals()
 
 
@@ -965,10 +982,10 @@ def step_one_values():
         moon, sun = given.moon(chance), given.sun(chance)
         for love in LOVES:
             C, S = random_field(4)
-            phases, selection = random_phases(), chance.one(0, 0, given.few_lines(chance))
-            number, lines, C2, S2 = t.solid_tide(4, C, S, moon, sun, love, phases, selection)
+            hour, selection = reached(random_phases()), chance.one(0, 0, given.few_lines(chance))
+            number, lines, C2, S2 = t.solid_tide(4, C, S, moon, sun, love, hour, selection)
             expect('step one', (number, lines), (0, f'{selection:b}'.count('1')))
-            named, (second_c, second_s) = by_latitude((moon, sun), love), changes_of(t.step_two_corrections(phases, love, selection), 4)
+            named, (second_c, second_s) = by_latitude((moon, sun), love), changes_of(t.step_two_corrections(hour, love, selection), 4)
             for n in range(5):
                 for m in range(n + 1):
                     i, (dC, dS) = t.index(n, m), named.get((n, m), (0, 0))
@@ -991,7 +1008,7 @@ def step_one_refusals():
     field = [5] * 15, [6] * 15
 
     def answer(number, moon, sun):
-        got, lines, C, S = t.solid_tide(4, *field, moon, sun, chance.one(*LOVES), random_phases(), given.accepted_selection(chance))
+        got, lines, C, S = t.solid_tide(4, *field, moon, sun, chance.one(*LOVES), reached(random_phases()), given.accepted_selection(chance))
         expect('step one', got, number)
         assert got == 0 or (lines, C, S) == (None, *field)
 
@@ -1001,7 +1018,7 @@ def step_one_refusals():
         answer(number, MOON, fault)
         answer(number, fault, chance.one(*faults)[1])                           # a faulty Sun never comes before the Moon
         for before, call in ((1, (3, *field)), (2, (4, [1 << 62] * 15, field[1])), (14, (4, *field))):
-            expect('step one', t.solid_tide(*call, fault, fault, t.ELASTIC, NONE, 1 << 49), (before, None, *call[1:]))
+            expect('step one', t.solid_tide(*call, fault, fault, t.ELASTIC, given.START, 1 << 49), (before, None, *call[1:]))
     for number, first, second in ((3, (0, -1.0), (3, nan)), (3, (4, 1.0), (1, inf)), (4, (4, 1.0), (1, 7.0))):
         answer(number, given.spoilt_body(given.spoilt_body(SUN, *first), *second), SUN)     # 3 before 4 before 5 of one body
 
@@ -1032,12 +1049,12 @@ def bound_of_six():
 
 # --- One call for the solid tide ---
 
-def check_solid(bodies, love, phases, selection, five, exact, N=4):
+def check_solid(bodies, love, hour, selection, five, exact, N=4):
     """The call on one field: how many lines the selection names by its binary digits, and every entry. Less step one's correction each change is
     the five's, and less than a count from the exact sum of the lines named."""
     number, corrections = t.step_one_corrections(*bodies, love)
     C, S = random_field(N)
-    got, lines, C2, S2 = t.solid_tide(N, C, S, *bodies, love, phases, selection)
+    got, lines, C2, S2 = t.solid_tide(N, C, S, *bodies, love, hour, selection)
     expect('solid tide', (number, got, lines), (0, 0, f'{selection:b}'.count('1')))
     of_c, of_s = differences(C, C2), differences(S, S2)
     for n, m, dC, dS in corrections:
@@ -1061,23 +1078,23 @@ def some_bodies(love):
 
 
 def some_call(love):
-    """Bodies, the model, phases and a selection, all accepted."""
-    return *some_bodies(love), love, random_phases(), given.lines_or_none(chance)
+    """Bodies, the model, a reached hour and a selection, all accepted."""
+    return *some_bodies(love), love, reached(random_phases()), given.lines_or_none(chance)
 
 
-def steps_in_turn(N, C, S, moon, sun, love, phases, selection):
+def steps_in_turn(N, C, S, moon, sun, love, hour, selection):
     """Step one on a field, then step two on what that leaves: (the number that a field test between them gives, C after both, S after both)."""
     C, S = t.added(C, S, t.step_one_corrections(moon, sun, love)[1])
     number = t.field_test(N, C, S)
-    return number, *t.added(C, S, t.by_place(t.step_two_corrections(phases, love, selection)))
+    return number, *t.added(C, S, t.by_place(t.step_two_corrections(hour, love, selection)))
 
 
 def solid_tide():
     """"The correction is the sum of the two, added once": as by the steps in turn, but that what step one alone leaves is not tested."""
     for i in range(500):
-        *bodies, love, phases, selection = some_call(LOVES[i % 2])
-        five, exact = t.step_two_corrections(phases, love, selection), t.step_two_exact(phases, love, selection)
-        check_solid(bodies, love, phases, selection, five, exact, 4 if i % 5 else chance.between(4, 60))
+        *bodies, love, hour, selection = some_call(LOVES[i % 2])
+        five, exact = t.step_two_corrections(hour, love, selection), t.step_two_exact(hour.phases, love, selection)
+        check_solid(bodies, love, hour, selection, five, exact, 4 if i % 5 else chance.between(4, 60))
     in_turn = Counter()
     for i in range(400):
         call, N = some_call(LOVES[i % 2]), 4 if i % 5 else chance.between(4, 12)
@@ -1088,7 +1105,7 @@ def solid_tide():
         expect('solid tide', t.solid_tide(N, C, S, *call)[0], again)
         in_turn[number, again] += 1
     expect('solid tide', min(in_turn[0, 0], in_turn[2, 2]) > 100, True)
-    day_call = *telling.DAY_BODIES, t.ANELASTIC, telling.DAY_PHASES, t.ALL_LINES
+    day_call = *telling.DAY_BODIES, t.ANELASTIC, t.set_hour(telling.DAY_PHASES), t.ALL_LINES
     N, C, S = telling.day_field()
     for number_in_turn, number in ((2, 0), (2, 0), (2, 2)):                     # out of the range by step one alone, then by both
         expect('solid tide', steps_in_turn(N, C, S, *day_call)[0], number_in_turn)
@@ -1097,9 +1114,9 @@ def solid_tide():
     for i in range(200):
         *one, _, _ = some_call(LOVES[i % 2])
         field = 4, *random_field(4)
-        alone = t.solid_tide(*field, *one, random_phases(), 0)                  # no lines named: step one alone
+        alone = t.solid_tide(*field, *one, reached(random_phases()), 0)         # no lines named: step one alone
         expect('solid tide', alone, (0, 0, *t.added(*field[1:], t.step_one_corrections(*one)[1])))
-        _, _, C, S = t.solid_tide(*field, *one, random_phases(), given.accepted_selection(chance))
+        _, _, C, S = t.solid_tide(*field, *one, reached(random_phases()), given.accepted_selection(chance))
         expect('solid tide', (C[6:], S[6:]), (alone[2][6:], alone[3][6:]))      # degrees 3 and 4 are step one's
         expect('solid tide', [S[t.index(n, 0)] for n in range(5)], [field[2][t.index(n, 0)] for n in range(5)])
     solid_extremes()
@@ -1110,18 +1127,27 @@ def solid_extremes():
     """No sum leaves signed 64 bits: entry, step one and step two at their ends, of one sign, added up in any order."""
     expect('solid tide', [t.nearest_float(sign * (t.COUNT_BOUND - 0.5)) for sign in (1, -1)], [1 << 52, -(1 << 52)])
     most_one = (1 << 52) - min(t.PERMANENT.values())
-    most_two = max(100 * sum(abs(ip) + abs(op) for first, *_, ip, op in printed(love) if first == band) for love in LOVES for band in range(3))
-    expect('solid tide', (most_one < 1 << 53, most_two < 1 << 20, (1 << 60) + most_one + most_two < 1 << 61), (True, True, True))
-    quarters = [*product((0, 1 << 30, 1 << 31, 3 << 30), (0, 1 << 30, 1 << 31, 3 << 30), *[(0,)] * 4)]
+    most_two = max(200 * sum(abs(ip) + abs(op) for first, *_, ip, op in printed(love) if first == band) for love in LOVES for band in range(3))
+    expect('solid tide', (most_one < 1 << 53, most_two < 1 << 21, (1 << 60) + most_one + most_two < 1 << 61), (True, True, True))
+    expect('solid tide', most_two << 30 < 1 << 63, True)                        # the sum that is rounded, and its products
+    quarters = [t.set_hour(phases) for phases in product((0, 1 << 30, 1 << 31, 3 << 30), (0, 1 << 30, 1 << 31, 3 << 30), *[(0,)] * 4)]
     for (which, coefficient), love, sign in product(enumerate(telling.COEFFICIENTS[:5]), LOVES, (1, -1)):
-        phases = max(quarters, key=lambda six: sign * t.step_two_corrections(six, love, t.ALL_LINES)[which])
+        hours = *quarters, at_ends(which, sign, love)
+        hour = max(hours, key=lambda one: sign * t.step_two_corrections(one, love, t.ALL_LINES)[which])
         bodies = telling.at_the_bound(chance, coefficient, love, sign * (t.COUNT_BOUND - 0.5))
-        number, _, *lists = t.solid_tide(4, [sign << 60] * 15, [sign << 60] * 15, *bodies, love, phases, t.ALL_LINES)
+        number, _, *lists = t.solid_tide(4, [sign << 60] * 15, [sign << 60] * 15, *bodies, love, hour, t.ALL_LINES)
         n, m, letter = coefficient
         permanent = t.PERMANENT[love] if m == 0 else 0
-        entry = (sign << 60) + (sign << 52) - permanent + t.step_two_corrections(phases, love, t.ALL_LINES)[which]
+        entry = (sign << 60) + (sign << 52) - permanent + t.step_two_corrections(hour, love, t.ALL_LINES)[which]
         expect('solid tide', (number, lists['CS'.index(letter)][t.index(n, m)]), (0, entry))
         expect('solid tide', all(abs(one) < 1 << 61 for entries in lists for one in entries), True)
+
+
+def at_ends(which, sign, love):
+    """A record written by hand, each value at an end of its 32 bits, so that this one of the five is as far from zero as it can be, of this sign."""
+    end = lambda factor: given.MOST_32 if sign * factor > 0 else given.LEAST_32
+    by_sine, by_cosine = ([part[which] for part in line_parts([wave] * 49, love)] for wave in ((1, 0), (0, 1)))
+    return t.Hour(NONE, tuple(map(end, by_cosine)), tuple(map(end, by_sine)))
 
 
 def solid_orders():
@@ -1133,7 +1159,7 @@ def solid_orders():
         (N, C, S), moon, sun, selection = given.solid_with(chance, faults)
         each = t.field_test(N, C, S), t.selection_test(selection), t.body_test(moon), t.body_test(sun)
         expect('orders', each, tuple(first_of(faults, places) for places in (range(2), range(2, 3), range(3, 6), range(6, 9))))
-        got, lines, C2, S2 = t.solid_tide(N, C, S, moon, sun, love, random_phases(), selection)
+        got, lines, C2, S2 = t.solid_tide(N, C, S, moon, sun, love, reached(random_phases()), selection)
         expect('orders', got, first_of(faults, range(10)))
         assert (lines, C2, S2) == (None, C, S) if faults else lines is not None
 
@@ -1142,9 +1168,300 @@ def day():
     """The worked day: its counts were made with doubles, apart from this program."""
     number, corrections = t.step_one_corrections(*telling.DAY_BODIES, t.ANELASTIC)
     expect('day', (number, {(n, m): both for n, m, *both in corrections if n == 2}), (0, telling.DAY_STEP_ONE))
-    expect('day', t.step_two_corrections(telling.DAY_PHASES, t.ANELASTIC, t.ALL_LINES), telling.DAY_STEP_TWO)
-    number, lines, C, S = t.solid_tide(4, [0] * 15, [0] * 15, *telling.DAY_BODIES, t.ANELASTIC, telling.DAY_PHASES, t.ALL_LINES)
+    hour = t.set_hour(telling.DAY_PHASES)
+    expect('day', t.step_two_corrections(hour, t.ANELASTIC, t.ALL_LINES), telling.DAY_STEP_TWO)
+    number, lines, C, S = t.solid_tide(4, [0] * 15, [0] * 15, *telling.DAY_BODIES, t.ANELASTIC, hour, t.ALL_LINES)
     expect('day', (number, lines, C[3:6], S[3:6]), (0, 49, [90640, -3410551, 6229483], [0, 1284180, -4327943]))
+
+
+# --- Sines kept with the hour ---
+
+# Which printed lines have each argument, by the digits of their numbers.
+HAS = [[digit != ('5' if at else '0') for digit in (f'{number:06d}'[at] for number, _, _ in t.PRINTED)] for at in range(6)]
+
+
+@lru_cache(1 << 12)
+def afresh(phases):
+    """The record of these phases, its values by the digits of the lines' numbers."""
+    sines, cosines = zip(*line_waves(phases, t.sine, t.cosine))
+    return t.Hour(phases, cosines, sines)
+
+
+def moved(hour, at, amount):
+    return t.move_hour(hour, t.ARGUMENTS[at], amount)
+
+
+def moved_by_digits(hour, at, amount):
+    """The record after a move: the phase's 32 bits, the lines that have the argument afresh, all others as they were."""
+    new = afresh(tuple(given.spoilt(hour.phases, at, (hour.phases[at] + amount) & U32)))
+    pick = lambda of_new, of_held: tuple(a if has else b for has, a, b in zip(HAS[at], of_new, of_held, strict=True))
+    return t.Hour(new.phases, pick(new.cosines, hour.cosines), pick(new.sines, hour.sines))
+
+
+def hours_by_hand():
+    """The start; and quarter turns, at which each wave is known."""
+    one, none = 1 << 30, (0,) * 49
+    expect('hours', t.ARGUMENTS, ('tau', 's', 'h', 'p', 'np', 'ps'))
+    expect('hours', t.start_hour(), (NONE, (one,) * 49, none))
+    k1, node, s2 = 15, 26, 48                                                   # tau + s, N', 2 tau
+    lines = lambda hour: [(hour.cosines[i], hour.sines[i]) for i in (k1, node, s2)]
+    for amount, sign in ((one, 1), (-one, -1)):
+        for argument, wanted in (
+                ('tau', [(0, sign * one), (one, 0), (-one, 0)]), ('s', [(0, sign * one), (one, 0), (one, 0)]),
+                ('np', [(one, 0), (0, sign * one), (one, 0)]), ('h', [(one, 0)] * 3), ('p', [(one, 0)] * 3), ('ps', [(one, 0)] * 3)):
+            hour = t.move_hour(t.start_hour(), argument, amount)
+            expect('hours', (hour.phases, lines(hour)), (tuple(amount & U32 if name == argument else 0 for name in t.ARGUMENTS), wanted))
+    expect('hours', [sum(has) for has in HAS], [28, 37, 19, 22, 17, 5])
+    expect('hours', [any(of_line) for of_line in zip(*HAS, strict=True)], [True] * 49)
+
+
+def hours():
+    """"After any calls from the start, the kept values equal those worked out afresh from its phases"; and what a move does to any record."""
+    hours_by_hand()
+    for _ in range(80):                                                         # any calls from the start
+        hour = t.start_hour()
+        for kind, *numbers in (given.set_or_move(chance) for _ in range(chance.between(1, 40))):
+            if kind == given.SET:
+                phases, hour = numbers, t.set_hour(numbers)
+            else:
+                at, amount = numbers
+                phases, hour = given.spoilt(hour.phases, at, (hour.phases[at] + amount) & U32), moved(hour, at, amount)
+            expect('hours', hour, afresh(tuple(phases)))
+    any_record = lambda: chance.one(given.any_hour, lambda chance: t.set_hour(given.phases(chance)))(chance)
+    amounts = *given.AMOUNTS, *given.EIGHTHS, 2, -2
+    for at, amount in product(range(6), amounts):                               # from the turn's ends, past them and beside them, and from anywhere
+        for before in (0, U32, 1, -amount & U32, -amount - 1 & U32, 1 - amount & U32, given.phase(chance)):
+            phases = given.spoilt(random_phases(), at, before)
+            hour = moved(t.set_hour(phases), at, amount)
+            expect('hours', hour, afresh(tuple(given.spoilt(phases, at, (before + amount) % 2**32))))
+    for at, _ in product(range(6), range(60)):
+        hour, a, b, other = any_record(), given.amount(chance), given.amount(chance), chance.below(6)
+        expect('hours', moved(hour, at, a), moved_by_digits(hour, at, a))
+        expect('hours', moved(moved(hour, at, a), at, b), moved(hour, at, given.in_32(a + b)))
+        expect('hours', moved(moved(hour, at, a), at, given.in_32(-a)), moved(hour, at, 0))
+        expect('hours', moved(moved(hour, at, a), other, b), moved(moved(hour, other, b), at, a))
+        expect('hours', moved(t.set_hour(hour.phases), at, 0), t.set_hour(hour.phases))             # by nothing, on a reached record
+        for each in range(6):                                                   # every line has an argument
+            hour = moved(hour, each, 0)
+        expect('hours', hour, t.set_hour(hour.phases))
+    for _ in range(60):
+        phases, steps = random_phases(), []
+        while len(steps) < 2:                                                   # not by a set alone
+            steps = given.steps_to(chance, phases)
+        expect('hours', given.hour_after(steps), t.set_hour(phases))
+    held, right, wrong = given.written(telling.HELD), (MOVE, 5, 1), (MOVE, 6, 1)                   # the last step's answer at the C boundary
+    for steps, number in (([], 0), ([held], 0), ([wrong], 100), ([held, wrong], 100), ([wrong, right], 0), ([right, wrong], 100), ([wrong, held], 0)):
+        right_ones = [step for step in steps if step != wrong]
+        expect('hours', values.BOUNDARY['hour_answer'](steps), (number, given.hour_after(right_ones)))
+    for steps in telling.wraps():                                               # each argument past the end, and past the start
+        (_, *before), (_, at, up), (_, other, down) = steps
+        expect('hours', (before[at] + up > U32, before[other] + down < 0), (True, True))
+    values_held = {*telling.HELD.cosines, *telling.HELD.sines}
+    for at, amount in ((0, 0), *enumerate(telling.HELD_AMOUNTS)):
+        new = afresh(moved(telling.HELD, at, amount).phases)
+        expect('hours', (len(values_held), values_held & {*new.cosines, *new.sines}), (98, set()))
+
+
+def check_kept(hour, love, selection, N=4):
+    """A call with any record: step one's corrections, and for step two "the same sum over the values it holds". Answers the five."""
+    sums = named_sums(line_parts(zip(hour.sines, hour.cosines), love), selection)
+    five = tuple(away(Fraction(total, 1 << 30)) for total in sums)
+    bodies = telling.pair(chance)
+    C, S = random_field(N)
+    number, lines, C2, S2 = t.solid_tide(N, C, S, *bodies, love, hour, selection)
+    _, _, C1, S1 = t.solid_tide(N, C, S, *bodies, love, given.START, 0)
+    expect('kept values', (number, lines, differences(C1, C2), differences(S1, S2)), (0, f'{selection:b}'.count('1'), *changes_of(five, N)))
+    expect('kept values', t.solid_tide(N, C, S, *bodies, love, hour._replace(phases=random_phases()), selection), (0, lines, C2, S2))
+    expect('kept values', t.step_two_corrections(hour, love, selection), ANEW['step_two_corrections'](hour, love, selection))
+    assert love == t.ANELASTIC or five[0] == 0
+    return five
+
+
+def kept_values():
+    """Records written by hand: the values are read, whatever they are, and the phases are not."""
+    most, least = given.MOST_32, given.LEAST_32
+    # the tenths add up to 4507 and 4501, diurnal; ip 101 and op 145; -15
+    for love, long_period, diurnal in ((t.ELASTIC, 0, 4507), (t.ANELASTIC, 101 - 145, 4501)):
+        two = 200 * diurnal
+        expect('kept values', check_kept(telling.throughout(least, least), love, t.ALL_LINES), (-200 * long_period, -two, -two, 3000, -3000))
+        expect('kept values', check_kept(telling.throughout(most, most), love, t.ALL_LINES), (200 * long_period, two, two, -3000, 3000))
+        expect('kept values', check_kept(telling.throughout(1 << 30, 0), love, t.ALL_LINES), t.step_two_corrections(given.START, love, t.ALL_LINES))
+        expect('kept values', check_kept(telling.throughout(0, 0), love, t.ALL_LINES), (0,) * 5)
+    for i, love in product(range(49), LOVES):
+        hour, (number, one, two) = telling.one_line(i), t.PRINTED[i]
+        used = {t.ELASTIC: (one, 0), t.ANELASTIC: (two, 0)}[love] if number > 100_000 else (one, two) if love == t.ANELASTIC else (0, 0)
+        ip, op = (200 * tenths for tenths in used)                              # the cosine nearly 2, the sine -2
+        five = [(ip + op, 0, 0, 0, 0), (0, -ip, ip, 0, 0), (0, 0, 0, ip, ip)][number // 100_000]
+        for selection in (t.ALL_LINES, 1 << i, given.accepted_selection(chance) | 1 << i):
+            expect('kept values', check_kept(hour, love, selection), five)
+        expect('kept values', check_kept(hour, love, t.ALL_LINES ^ 1 << i), (0,) * 5)
+    for which, sign, love in product(range(5), (1, -1), LOVES):
+        check_kept(at_ends(which, sign, love), love, chance.one(t.ALL_LINES, t.MAJOR_LINES, given.accepted_selection(chance)))
+    for i in range(400):
+        check_kept(given.any_hour(chance), LOVES[i % 2], chance.one(t.ALL_LINES, given.lines_or_none(chance)), 4 if i % 5 else chance.between(4, 60))
+    for i in range(100):                                                        # a value's sign reversed, all of them: each correction's too
+        hour = given.any_hour(chance)
+        hour = t.Hour(hour.phases, *(tuple(max(value, -most) for value in part) for part in hour[1:]))
+        other = t.Hour(hour.phases, opposite(hour.cosines), opposite(hour.sines))
+        call = LOVES[i % 2], given.accepted_selection(chance)
+        expect('kept values', t.step_two_corrections(other, *call), opposite(t.step_two_corrections(hour, *call)))
+    for i in range(60):                                                         # one hour for several fields
+        hour, love, selection = given.any_hour(chance), LOVES[i % 2], given.accepted_selection(chance)
+        expect('kept values', len({check_kept(hour, love, selection, N) for N in (4, 5, chance.between(4, 12), 4)}), 1)
+
+
+def hour_by(rule, steps):
+    """T-08's record after the steps by a rule that can be changed: the start; which argument a number names; the phases that a set or a move
+    leaves, and from which it works the values out; the lines that get them; and what a line gets of the new pair and the one held."""
+    hour = rule['start']
+    for kind, *numbers in steps:
+        if kind == given.WRITE:
+            hour = t.Hour(*(tuple(numbers[first:end]) for first, end in ((0, 6), (6, 55), (55, 104))))
+            continue
+        call = tuple(numbers) if kind == given.SET else (rule['argument'](numbers[0]), numbers[1])
+        if call[0] is None:
+            continue
+        phases = rule['phases', kind](hour.phases, call)
+        new = afresh(rule['from'](hour.phases, phases))
+        pairs = []
+        for i, (pair, held) in enumerate(zip(zip(*new[1:]), zip(*hour[1:]), strict=True)):
+            pairs.append(rule['values', kind](pair, held) if rule['lines', kind](i, hour.phases, call) else held)
+        hour = t.Hour(phases, *zip(*pairs))
+    return hour
+
+
+SET, MOVE = given.SET, given.MOVE
+RIGHT_HOUR = {
+    'start': afresh(NONE), 'argument': lambda number: number if number < 6 else None, 'from': lambda held, new: new, 'read': lambda hour: hour,
+    ('phases', SET): lambda held, new: new, ('lines', SET): lambda i, held, new: True, ('values', SET): lambda new, held: new,
+    ('phases', MOVE): lambda held, call: tuple(given.spoilt(held, call[0], (held[call[0]] + call[1]) & U32)),
+    ('lines', MOVE): lambda i, held, call: HAS[call[0]][i], ('values', MOVE): lambda new, held: new}
+LINE_BANDS = [[number // 100_000 == first for number, _, _ in t.PRINTED] for first in range(3)]
+OTHERS = [(at, other) for at, other in product(range(6), repeat=2) if at != other]
+
+
+def start_slips():
+    """Zeros kept, the two exchanged or equal, other phases, other signs; and one value another one. No tide shows a cosine where ip is 0."""
+    zeros, ones, quarter = (0,) * 49, (1 << 30,) * 49, (1 << 30,) * 6
+    for two in ((zeros, zeros), (zeros, ones), (ones, ones), (opposite(ones), zeros)):
+        yield 'start', t.Hour(NONE, *two), True
+    for wrong in (afresh(quarter), t.Hour(quarter, ones, zeros)):
+        yield 'start', wrong, True
+    for i in range(49):
+        yield 'start', t.Hour(NONE, tuple(given.spoilt(ones, i, 0)), zeros), t.PRINTED[i][1] != 0
+        yield 'start', t.Hour(NONE, ones, tuple(given.spoilt(zeros, i, 1 << 30))), True
+
+
+def phase_slips():
+    """Phases: one not replaced, added to, exchanged with the next; another one moved, all of them; and the amount read or added in another way. No
+    tide shows a unit."""
+    yield ('phases', SET), lambda held, new: held, True
+    yield ('phases', SET), lambda held, new: new[::-1], True
+    yield ('phases', SET), lambda held, new: tuple((one + two) & U32 for one, two in zip(held, new)), True
+    for at in range(6):
+        yield ('phases', SET), lambda held, new, at=at: tuple(given.spoilt(new, at, held[at])), True
+        if at < 5:
+            yield ('phases', SET), lambda held, new, at=at: (*new[:at], new[at + 1], new[at], *new[at + 2:]), True
+    move = RIGHT_HOUR['phases', MOVE]
+    yield ('phases', MOVE), lambda held, call: tuple((phase + call[1]) & U32 for phase in held), True
+    for at, other in OTHERS:
+        yield ('phases', MOVE), lambda held, call, at=at, other=other: move(held, (other, call[1]) if call[0] == at else call), True
+    added = (
+        lambda phase, amount: phase, lambda phase, amount: amount & U32, lambda phase, amount: phase - amount & U32,
+        lambda phase, amount: phase + abs(amount) & U32, lambda phase, amount: phase + (amount & 0x7fffffff) & U32,
+        lambda phase, amount: phase + (amount + (1 << 15) & 0xffff) - (1 << 15) & U32,                  # 16 bits of it
+        lambda phase, amount: phase + amount & 0x7fffffff,
+        lambda phase, amount: min(phase + (amount & U32), U32),                                         # taken as unsigned, clamped
+        lambda phase, amount: min(phase + amount, U32) & U32, lambda phase, amount: max(phase + amount, 0) & U32,
+        lambda phase, amount: min(max(phase + amount, 0), U32),
+        lambda phase, amount: phase + (amount & U32), lambda phase, amount: phase + amount,             # not wrapped
+        lambda phase, amount: phase + amount if 0 <= phase + amount <= U32 else phase)                  # not moved where it would wrap
+    for at, wrong in product(range(6), added):                                  # of one argument alone
+        yield ('phases', MOVE), lambda held, call, at=at, wrong=wrong: (
+            tuple(given.spoilt(held, at, wrong(held[at], call[1]))) if call[0] == at else move(held, call)), wrong not in added[-3:-1]
+    most, least = given.MOST_32, given.LEAST_32
+    for end, instead, shown in ((least, 0, True), (most, 0, True), (least, -most, False), (1, 0, False), (-1, 0, False), (-1, 1, False)):
+        yield ('phases', MOVE), lambda held, call, end=end, instead=instead: move(held, (call[0], instead) if call[1] == end else call), shown
+    yield 'from', lambda held, new: held, True
+
+
+def value_slips():
+    """Values: lines left that should get new ones, one, those of a band or of an argument; lines that should not; and only the cosine or the sine,
+    or one for the other."""
+    has = RIGHT_HOUR['lines', MOVE]
+    changed = lambda i, held, new: any(HAS[at][i] and held[at] != new[at] for at in range(6))
+    for wrong in (lambda i, held, new: False, lambda i, held, new: held != new, changed,
+                  *(lambda i, held, new, band=band: band[i] for band in (*LINE_BANDS, *HAS)),
+                  *(lambda i, held, new, band=band: not band[i] for band in LINE_BANDS),
+                  *(lambda i, held, new, left=left: i != left for left in range(49))):
+        yield ('lines', SET), wrong, True
+    multiplier = lambda i, call: t.MULTIPLIERS[i][call[0]]
+    for wrong in (lambda i, held, call: False, lambda i, held, call: True, lambda i, held, call: not has(i, held, call),
+                  lambda i, held, call: has(i, held, call) and call[1] != 0,
+                  lambda i, held, call: multiplier(i, call) > 0, lambda i, held, call: multiplier(i, call) < 0,
+                  lambda i, held, call: abs(multiplier(i, call)) == 1,
+                  *(lambda i, held, call, band=band: has(i, held, call) and band[i] for band in LINE_BANDS),
+                  *(lambda i, held, call, band=band: has(i, held, call) and not band[i] for band in LINE_BANDS),
+                  *(lambda i, held, call, band=band: has(i, held, call) or band[i] for band in LINE_BANDS),
+                  *(lambda i, held, call, two=two: has(i, held, [two[1]] if call[0] == two[0] else call) for two in OTHERS),
+                  *(lambda i, held, call, one=one: has(i, held, call) != ((call[0], i) == one) for one in product(range(6), range(49)))):
+        yield ('lines', MOVE), wrong, True
+    for kind, wrong in product((SET, MOVE), (
+            lambda new, held: (held[0], new[1]), lambda new, held: (new[0], held[1]), lambda new, held: new[::-1],
+            lambda new, held: (new[0],) * 2, lambda new, held: (new[1],) * 2, lambda new, held: (new[0], -new[1]), lambda new, held: (-new[0], new[1]))):
+        yield ('values', kind), wrong, True
+
+
+def reading_slips():
+    """What the solid tide reads: values of the phases instead, all, cosines or sines, a band's or a line's; another line's; and other numbers."""
+    each = lambda does: lambda hour: t.Hour(hour.phases, *map(does, hour[1:]))
+    of_line = lambda lines: lambda hour: t.Hour(hour.phases, *(
+        tuple(new if one else held for one, new, held in zip(lines, *two)) for two in zip(afresh(hour.phases)[1:], hour[1:])))
+    yield from (
+        lambda hour: afresh(hour.phases),
+        lambda hour: hour._replace(cosines=afresh(hour.phases).cosines), lambda hour: hour._replace(sines=afresh(hour.phases).sines),
+        *(of_line(band) for band in LINE_BANDS), *(of_line([i == line for i in range(49)]) for line in range(49)),
+        lambda hour: hour._replace(cosines=hour.sines, sines=hour.cosines),
+        lambda hour: hour._replace(sines=hour.cosines), lambda hour: hour._replace(cosines=hour.sines),
+        lambda hour: hour._replace(cosines=opposite(hour.cosines)), lambda hour: hour._replace(sines=opposite(hour.sines)),
+        each(lambda values: values[1:] + values[:1]), each(lambda values: values[-1:] + values[:-1]),
+        *(each(lambda values, i=i: (*values[:i], values[i + 1], values[i], *values[i + 2:])) for i in range(48)),
+        each(lambda values: tuple(min(value, 1 << 30) for value in values)), each(lambda values: tuple(max(value, -1 << 30) for value in values)),
+        each(lambda values: tuple(value & U32 for value in values)),
+        # the sine's negative in 32 bits, and clamped there
+        lambda hour: hour._replace(sines=tuple(1 << 31 if value == given.LEAST_32 else value for value in hour.sines)),
+        lambda hour: hour._replace(sines=tuple(max(value, -given.MOST_32) for value in hour.sines)))
+
+
+def argument_slips():
+    """Which number names an argument, at the C boundary."""
+    below_six = RIGHT_HOUR['argument']
+    yield from (lambda number: number % 6, lambda number: min(number, 5), lambda number: 0 if number > 5 else number,
+                lambda number: 0 if number == 6 else below_six(number), lambda number: None if number == 5 else below_six(number),
+                lambda number: 0 if number >= 1 << 31 else below_six(number),
+                *(lambda number, bits=bits: below_six(number % (1 << bits)) for bits in (3, 8, 16, 31)))
+
+
+def hour_slips():
+    """T-08 told by the stored calls from each rule with one piece changed: the record by the hours alone, and where it shows by the solid tides
+    alone; what is read of it by the solid tides; and what a number names by the hours in words."""
+    slips = [(piece, wrong, {'hours', 'tides'} if shown else {'hours'}) for piece, wrong, shown in (*start_slips(), *phase_slips(), *value_slips())]
+    slips += [('read', wrong, {'tides'}) for wrong in reading_slips()] + [('argument', wrong, {'in words'}) for wrong in argument_slips()]
+    hours, in_words = ([(steps, given.hour_after(steps)) for steps in stored] for stored in (values.hours, values.hours_in_words))
+    answered = [(does, field, does(*field)) for name, does, field in values.lent[::-1] if name == 'solid_tide']
+    accepted, corrections = [one for one in answered if one[2][0] == 0], t.step_two_corrections
+
+    def told(rule):
+        """Which calls answer another record, or leave another field, by the rule."""
+        with patch.object(given, 'hour_after', lambda steps: hour_by(rule, steps)), \
+                patch.object(t, 'step_two_corrections', lambda hour, *call: corrections(rule['read'](hour), *call)):
+            other = lambda stored: any(given.hour_after(steps) != hour for steps, hour in stored)
+            tides = any(does(*field) != answer for does, field, answer in accepted)
+            return {name for name, differ in (('hours', other(hours)), ('in words', other(in_words)), ('tides', tides)) if differ}
+
+    expect('hour slips', told(RIGHT_HOUR), set())
+    for piece, wrong, by in slips:
+        expect('hour slips', (piece, wrong, by - told({**RIGHT_HOUR, piece: wrong})), (piece, wrong, set()))
 
 
 # --- Signs reversed ---
@@ -1155,14 +1472,14 @@ def reversed_lines():
     tried = []
     for love, phases in product(LOVES, (*telling.tie_phases(), telling.DAY_PHASES, telling.LINE_PHASES, *(random_phases() for _ in range(40)))):
         chosen = t.ALL_LINES, t.MAJOR_LINES, *given.BANDS, 1 << chance.below(49), given.accepted_selection(chance), given.accepted_selection(chance)
-        tried += [(phases, love, selection) for selection in chosen]
+        tried += [(t.set_hour(phases), love, selection) for selection in chosen]
     bodies, met = telling.pair(chance), set()
-    alone = {love: t.solid_tide(*ZEROS, *bodies, love, NONE, 0)[2:] for love in LOVES}
+    alone = {love: t.solid_tide(*ZEROS, *bodies, love, given.START, 0)[2:] for love in LOVES}
 
-    def answer(phases, love, selection):
-        *_, C, S = t.solid_tide(*ZEROS, *bodies, love, phases, selection)
-        sums = t.step_two_sums(phases, love, selection, t.sine, t.cosine)
-        return sums, t.step_two_corrections(phases, love, selection), *map(differences, alone[love], (C, S))
+    def answer(hour, love, selection):
+        *_, C, S = t.solid_tide(*ZEROS, *bodies, love, hour, selection)
+        sums = t.step_two_sums(hour, love, selection)
+        return sums, t.step_two_corrections(hour, love, selection), *map(differences, alone[love], (C, S))
 
     before = [answer(*one) for one in tried]
     with patch.multiple(t, **tables):
@@ -1268,7 +1585,6 @@ def turned_bodies():
 def rounding_slips():
     """The stored calls give every rounding halves of either sign, their whole part even and odd, and tell it from each with a wrong rule there; and
     both roundings of the ocean tide with one wrong rule."""
-    values.make()
     answered = [(name, does, field, does(*field)) for name, does, field in values.lent]
     accepted = [one for one in answered if one[3][0] == 0]
     met, given_to = set(), defaultdict(set)
@@ -1313,12 +1629,16 @@ def main():
     solid_tide()
     own_lines(hardest)
     pole_tide()
+    hours()
+    kept_values()
     day()
     nearest_counts()
     reversed_lines()
     reversed_records()
     reversed_sheets()
     turned_bodies()
+    values.make()
+    hour_slips()
     rounding_slips()
     seen = ', '.join(f'{kind} {count}' for kind, count in counts.items())
     errors = ', '.join(f'{kind} {float(error):.6f}' for kind, error in worst.items())

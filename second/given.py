@@ -1,6 +1,7 @@
-"""What is given to the calls: fields, phases, selections, bodies, sets of faults, records, pole offsets and sheets, drawn by a Chance."""
+"""What is given to the calls: fields, phases, hours, selections, bodies, sets of faults, records, pole offsets and sheets, drawn by a Chance."""
 
 import struct
+from functools import lru_cache
 from math import inf, nan, nextafter
 
 import tides as t
@@ -46,6 +47,98 @@ def phase(chance):
 
 def phases(chance):
     return tuple(phase(chance) for _ in range(6))
+
+
+# --- Hours ---
+
+# An hour is given by its steps from the start: all six phases, or an argument's number and an amount, or a record written by hand.
+SET, MOVE, WRITE = range(3)
+START, LAST = t.start_hour(), (U32,) * 6
+MOST_32 = -1 - LEAST_32
+AMOUNTS = 0, 1, -1, MOST_32, LEAST_32
+EIGHTHS = [k << 29 for k in (-3, -2, -1, 1, 2, 3)]
+
+
+def all_set(phases):
+    return SET, *phases
+
+
+def written(hour):
+    return WRITE, *hour.phases, *hour.cosines, *hour.sines
+
+
+set_again = lru_cache(9)(t.set_hour)     # many calls in a row have one hour
+
+
+def hour_after(steps):
+    """The record after the steps; one whose number names no argument changes nothing."""
+    hour = START
+    for kind, *numbers in steps:
+        if kind == SET:
+            hour = set_again(tuple(numbers))
+        elif kind == WRITE:
+            hour = t.Hour(*(tuple(numbers[a:b]) for a, b in ((0, 6), (6, 55), (55, 104))))
+        elif numbers[0] < len(t.ARGUMENTS):
+            hour = t.move_hour(hour, t.ARGUMENTS[numbers[0]], numbers[1])
+    return hour
+
+
+def in_32(amount):
+    """The signed 32-bit number that differs from the amount by whole turns."""
+    return (amount - LEAST_32) % t.TURN + LEAST_32
+
+
+def amount(chance):
+    anything = chance.between(LEAST_32, MOST_32)
+    return chance.one(anything, anything, anything, chance.one(*AMOUNTS), chance.one(*EIGHTHS), chance.between(-99, 99))
+
+
+def move(chance):
+    return MOVE, chance.below(6), amount(chance)
+
+
+def set_or_move(chance):
+    """A step, one in five a set."""
+    return all_set(phases(chance)) if chance.one_in(5) else move(chance)
+
+
+def steps_to(chance, goal):
+    """Steps that leave these phases: one set; or, one time in twelve, one or two moves of each argument, in any order, from the start or other
+    phases."""
+    if not chance.one_in(12):
+        return [all_set(goal)]
+    steps, now = chance.one(([], NONE), ([all_set(LAST)], LAST))
+    left = list(range(6))
+    while left:
+        at = left.pop(chance.below(len(left)))
+        first = amount(chance) if chance.one_in(3) else 0
+        steps += [(MOVE, at, first)] * (first != 0) + [(MOVE, at, in_32(goal[at] - now[at] - first))]
+    return steps
+
+
+def value(chance):
+    """A signed 32-bit number: any, at an end, or near zero or a whole wave."""
+    anything = chance.between(LEAST_32, MOST_32)
+    return chance.one(anything, anything, chance.one(LEAST_32, MOST_32), chance.one(-1, 0, 1) * t.UNIT + chance.between(-2, 2))
+
+
+def values(chance):
+    """49 of them: any, or one throughout but for a few."""
+    if chance.one_in(2):
+        return tuple(value(chance) for _ in range(49))
+    every = [chance.one(0, LEAST_32, MOST_32, value(chance))] * 49
+    for _ in range(chance.below(4)):
+        every[chance.below(49)] = value(chance)
+    return tuple(every)
+
+
+def any_hour(chance):
+    """A record written by hand: any values, or a reached record's with other phases or with a few values changed."""
+    drawn, hour = t.Hour(phases(chance), values(chance), values(chance)), t.set_hour(phases(chance))
+    few = lambda new, kept: tuple(a if chance.one_in(9) else b for a, b in zip(new, kept))
+    return chance.one(
+        drawn, drawn, hour._replace(phases=drawn.phases),
+        hour._replace(cosines=few(drawn.cosines, hour.cosines), sines=few(drawn.sines, hour.sines)))
 
 
 # --- Selections ---

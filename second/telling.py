@@ -9,7 +9,7 @@ from itertools import cycle, product
 from math import asin, floor, inf, nextafter, sqrt
 
 import tides as t
-from given import FAR_OFFSETS, OFFSET_EDGE, placed, write_sheet
+from given import FAR_OFFSETS, LAST, LEAST_32, MOST_32, MOVE, OFFSET_EDGE, U32, all_set, in_32, placed, spoilt, write_sheet, written
 
 # --- Step one ---
 
@@ -216,6 +216,82 @@ def day_field():
     C[4] = -t.FIELD_BOUND - DAY_STEP_ONE[2, 1][0] - 1000
     C[5] = t.FIELD_BOUND - DAY_STEP_ONE[2, 2][0] + 500
     return 4, C, [0] * 15
+
+
+# --- Sines kept with the hour ---
+
+# 98 signed 32-bit numbers far apart; and a record that has them beside phases of which none of them is a value, before a move or after it.
+SPREAD = [in_32(0x9e3779b1 * k) for k in range(1, 99)]
+HELD = t.Hour(LINE_PHASES, tuple(SPREAD[:49]), tuple(SPREAD[49:]))
+
+
+def throughout(cosine, sine):
+    """A record with the same values for every line."""
+    return t.Hour(LINE_PHASES, (cosine,) * 49, (sine,) * 49)
+
+
+BY_TURNS = t.Hour(LAST, *(tuple((LEAST_32, MOST_32)[(i + k) % 2] for i in range(49)) for k in range(2)))
+EXTREMES = throughout(MOST_32, MOST_32), throughout(LEAST_32, LEAST_32), BY_TURNS
+
+# At 137,455, 75,355 and 245,655 15/8 of a wave, which make each of the five a half in the anelastic model; and all others at an end.
+AT_HALVES = t.Hour(LINE_PHASES, *(tuple(value if i in (2, 38, 47) else LEAST_32 for i in range(49)) for value in (15 << 27, -15 << 27)))
+
+# By how much each argument of the record HELD is moved.
+HELD_AMOUNTS = 0, 1, -1, MOST_32, LEAST_32, 1 << 30
+
+
+def one_line(i):
+    """A record whose values are zeros but for this line's."""
+    return t.Hour(LINE_PHASES, *(tuple(spoilt([0] * 49, i, end)) for end in (MOST_32, LEAST_32)))
+
+
+def wraps():
+    """Steps that move each argument up past the turn's end, and the next one down past its start, by amounts of every size."""
+    for at, (up, down) in enumerate(((1, -1), (MOST_32, LEAST_32), (1 << 30, -1 << 30), (1 << 29, -1 << 29), (1, LEAST_32), (MOST_32, -1))):
+        other = (at + 1) % 6
+        phases = spoilt(spoilt(LINE_PHASES, at, U32 - (up - 1) // 2), other, (-down - 1) // 2)
+        yield [all_set(phases), (MOVE, at, up), (MOVE, other, down)]
+
+
+def hour_steps():
+    """Steps whose record tells T-08's rules of the start, of replacing and of moving from each with one piece changed (check.py holds them to
+    that)."""
+    yield []
+    yield [all_set(LINE_PHASES)]
+    yield [all_set(LAST), all_set(DAY_PHASES)]
+    for at, amount in enumerate((1 << 29, -1 << 29, 1 << 30, -1 << 30, 3 << 29, -3 << 29)):
+        yield [(MOVE, at, amount)]
+    yield from wraps()
+    yield [all_set(DAY_PHASES), *((MOVE, at, 0) for at in range(6))]
+    yield [all_set(DAY_PHASES), (MOVE, 3, 2_000_000_000), (MOVE, 3, 1_999_999_999)]
+    yield [all_set(DAY_PHASES), (MOVE, 3, in_32(3_999_999_999))]
+    yield [all_set(DAY_PHASES), written(HELD)]
+    yield [written(BY_TURNS)]
+    for at, amount in enumerate(HELD_AMOUNTS):
+        yield [written(HELD), (MOVE, at, amount)]
+    yield [written(HELD), (MOVE, 5, 77), (MOVE, 2, -77)]
+    yield [written(HELD), all_set(HELD.phases)]
+    yield [written(HELD), all_set(spoilt(HELD.phases, 5, 0))]
+
+
+def kept_calls():
+    """Steps, the Love model and a selection: solid tides that tell the reading of the kept values, and the rules above, from each with one piece
+    changed (check.py holds them to that)."""
+    every_second = sum(1 << i for i in range(0, 49, 2))
+    yield [], t.ANELASTIC, t.ALL_LINES
+    for love in (t.ELASTIC, t.ANELASTIC):
+        for hour in (HELD, t.Hour(DAY_PHASES, *t.set_hour(LINE_PHASES)[1:]), *EXTREMES):
+            yield [written(hour)], love, t.ALL_LINES
+    for hour in EXTREMES:
+        yield [written(hour)], t.ANELASTIC, every_second
+    yield [written(BY_TURNS)], t.ELASTIC, 0
+    for i in (0, 26, 48):
+        yield [written(one_line(i))], t.ANELASTIC, t.ALL_LINES
+    yield [written(one_line(47))], t.ELASTIC, t.ALL_LINES ^ 1 << 47
+    yield [written(AT_HALVES)], t.ANELASTIC, t.ALL_LINES
+    for at, amount in enumerate(HELD_AMOUNTS):
+        yield [written(HELD), (MOVE, at, amount)], t.ANELASTIC, t.ALL_LINES
+    yield [written(HELD), all_set(HELD.phases)], t.ANELASTIC, t.ALL_LINES
 
 
 # --- Tide lines of our own ---

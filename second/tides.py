@@ -1,10 +1,11 @@
-"""Tide corrections to a gravity field: a second program, written from the description (01, and T-01, T-02, T-04, T-05, T-06 and T-07 of 02) alone.
+"""Tide corrections to a gravity field: a second program, written from the description (01, and T-01, T-02 and T-04 to T-08 of 02) alone.
 
 Coefficients are whole counts of 10^-15. Every call that can refuse answers the refusal number first, 0 where it accepts.
 Whole numbers and Fractions throughout; floats (IEEE binary64) only in step one.
 """
 
 import struct
+from collections import namedtuple
 from fractions import Fraction
 from math import factorial, isfinite, isqrt, ldexp
 
@@ -191,6 +192,47 @@ def exact_cosine(phase):
     return Fraction(exact_cosine_numerator(phase), EXACT_DENOMINATOR)
 
 
+# --- Sines kept with the hour (02, T-08) ---
+
+ARGUMENTS = 'tau', 's', 'h', 'p', 'np', 'ps'             # in the phases' order; np is N'
+MULTIPLIERS = [doodson_read(number)[1] for number, _, _ in PRINTED]
+
+# "Six phases and beside them the values for the printed lines", a cosine and a sine for each in 01's order.
+Hour = namedtuple('Hour', 'phases cosines sines')
+
+
+def worked_out(phases, sin, cos):
+    """'Sines kept with the hour': a record of these phases, its values "those worked out afresh from its phases"."""
+    turned = [phase_of(multipliers, phases) for multipliers in MULTIPLIERS]
+    return Hour(tuple(phases), tuple(map(cos, turned)), tuple(map(sin, turned)))
+
+
+def set_hour(phases):
+    """'Sines kept with the hour', "replace all phases": every value is worked out afresh, whatever the record held."""
+    return worked_out(phases, sine, cosine)
+
+
+def start_hour():
+    """'Sines kept with the hour': the record that "starts from all phases zero"."""
+    return set_hour((0,) * 6)
+
+
+def move_hour(hour, argument, amount):
+    """'Sines kept with the hour', "move one, given by name, by a signed 32-bit amount, wrapping".
+
+    The values of the lines that have the argument are worked out afresh from the new phases. Those of all other lines stay what the record
+    holds, whatever it holds.
+    """
+    at = ARGUMENTS.index(argument)
+    phases, cosines, sines = map(list, hour)
+    phases[at] = (phases[at] + amount) % TURN
+    for i, multipliers in enumerate(MULTIPLIERS):
+        if multipliers[at] != 0:
+            phase = phase_of(multipliers, phases)
+            cosines[i], sines[i] = cosine(phase), sine(phase)
+    return Hour(tuple(phases), tuple(cosines), tuple(sines))
+
+
 # --- Step two, and the choice of its lines (02, T-04) ---
 
 def printed_records(love):
@@ -198,29 +240,34 @@ def printed_records(love):
 
     The second is 0 outside the long period; in it both are 0 for the elastic model ("anelastic only").
     """
-    lines = [(number, {ELASTIC: elastic, ANELASTIC: anelastic}[love], 0) for number, elastic, anelastic in DIURNAL]
-    lines += [(number, ip, op) if love == ANELASTIC else (number, 0, 0) for number, ip, op in LONG_PERIOD]
-    lines += [(number, amplitude, 0) for number, amplitude, _ in SEMIDIURNAL]
-    return [(*doodson_read(number)[1], ip, op) for number, ip, op in lines]
+    amplitudes = [({ELASTIC: elastic, ANELASTIC: anelastic}[love], 0) for _, elastic, anelastic in DIURNAL]
+    amplitudes += [(ip, op) if love == ANELASTIC else (0, 0) for _, ip, op in LONG_PERIOD]
+    amplitudes += [(amplitude, 0) for _, amplitude, _ in SEMIDIURNAL]
+    return [(*multipliers, *two) for multipliers, two in zip(MULTIPLIERS, amplitudes, strict=True)]
 
 
-def line_sums(records, phases, sin, cos):
-    """'Step two', 'Tide lines of our own': the five sums C20, C21, S21, C22, S22 in counts times the unit of sin and cos, nothing rounded."""
+def band_sums(records, cosines, sines):
+    """'Step two', 'Tide lines of our own': the five sums C20, C21, S21, C22, S22 in counts times the unit of the values, one of each for every
+    record; nothing rounded."""
     c20 = c21 = s21 = c22 = s22 = 0
-    for *multipliers, ip, op in records:
-        phase = phase_of(multipliers, phases)
-        sine_of, cosine_of = sin(phase), cos(phase)
+    for (first, *_, ip, op), cosine_of, sine_of in zip(records, cosines, sines, strict=True):
         by_cosine = 100 * ip * cosine_of - 100 * op * sine_of
         by_sine = 100 * ip * sine_of + 100 * op * cosine_of
-        if multipliers[0] == 0:
+        if first == 0:
             c20 += by_cosine
-        elif multipliers[0] == 1:
+        elif first == 1:
             c21 += by_sine
             s21 += by_cosine
         else:
             c22 += by_cosine
             s22 -= by_sine
     return c20, c21, s21, c22, s22
+
+
+def line_sums(records, phases, sin, cos):
+    """'Tide lines of our own': band_sums of the values that each record's phase has."""
+    turned = [phase_of(multipliers, phases) for *multipliers, _, _ in records]
+    return band_sums(records, [*map(cos, turned)], [*map(sin, turned)])
 
 
 def at_least(tenths, records):
@@ -243,20 +290,20 @@ def selection_test(selection):
     return 14 if selection > ALL_LINES else 0
 
 
-def step_two_sums(phases, love, selection, sin, cos):
-    """'Choosing which lines are used': line_sums over "the lines named there only"."""
-    records = printed_records(love)
-    return line_sums([records[i] for i in named_lines(selection)], phases, sin, cos)
+def step_two_sums(hour, love, selection):
+    """'Choosing which lines are used', 'Sines kept with the hour': of "the lines named there only" the "sum over the values it holds"."""
+    named = named_lines(selection)
+    return band_sums(*([one[i] for i in named] for one in (printed_records(love), hour.cosines, hour.sines)))
 
 
-def step_two_corrections(phases, love, selection):
+def step_two_corrections(hour, love, selection):
     """'Step two': the corrections to C20, C21, S21, C22, S22 in counts, each rounded once."""
-    return tuple(nearest(total, UNIT) for total in step_two_sums(phases, love, selection, sine, cosine))
+    return tuple(nearest(total, UNIT) for total in step_two_sums(hour, love, selection))
 
 
 def step_two_exact(phases, love, selection):
-    """'Step two' by the exact counterpart: the five sums as Fractions, in counts."""
-    sums = step_two_sums(phases, love, selection, exact_sine_numerator, exact_cosine_numerator)
+    """'Step two' by the exact counterpart, over values worked out from the phases: the five sums as Fractions, in counts."""
+    sums = step_two_sums(worked_out(phases, exact_sine_numerator, exact_cosine_numerator), love, selection)
     return tuple(Fraction(total, EXACT_DENOMINATOR) for total in sums)
 
 
@@ -264,9 +311,9 @@ def steptwo_program(data):
     """'Cases': the whole output of the program steptwo for the bytes of its input; it "keeps using all lines"."""
     if len(data) != 24:
         return b'refused\n'
-    phases = struct.unpack('<6I', data)
+    hour = set_hour(struct.unpack('<6I', data))
     rows = [('model', 'C20', 'C21', 'S21', 'C22', 'S22')]
-    rows += [(love, *step_two_corrections(phases, love, ALL_LINES)) for love in (ELASTIC, ANELASTIC)]
+    rows += [(love, *step_two_corrections(hour, love, ALL_LINES)) for love in (ELASTIC, ANELASTIC)]
     return ''.join(' '.join(map(str, row)) + '\n' for row in rows).encode('ascii')
 
 
@@ -603,14 +650,14 @@ def step_one_corrections(moon, sun, love):
     return 0, corrections
 
 
-# --- One call for the solid tide (02, T-06) ---
+# --- One call for the solid tide (02, T-06), which "takes this record in place of bare phases" (T-08) ---
 
-def solid_corrections(moon, sun, love, phases, selection):
+def solid_corrections(moon, sun, love, hour, selection):
     """'One call for the solid tide': (0, [(n, m, dC, dS)]), at each place "the sum of the two" steps, or (3, 4, 5 or 6, None)."""
     refusal, corrections = step_one_corrections(moon, sun, love)
     if refusal:
         return refusal, None
-    second = {(n, m): two for n, m, *two in by_place(step_two_corrections(phases, love, selection))}
+    second = {(n, m): two for n, m, *two in by_place(step_two_corrections(hour, love, selection))}
     sums = []
     for n, m, dC, dS in corrections:
         more_c, more_s = second.get((n, m), (0, 0))
@@ -618,14 +665,15 @@ def solid_corrections(moon, sun, love, phases, selection):
     return 0, sums
 
 
-def solid_tide(N, C, S, moon, sun, love, phases, selection):
+def solid_tide(N, C, S, moon, sun, love, hour, selection):
     """'One call for the solid tide' on a field: (number, "how many lines the selection names" or None, C after, S after).
 
-    "Refusals: 1, 2, 14, then the Moon's 3, 4, 5, the Sun's, and 6"; "where a call is refused nothing of either step is added".
+    It "reads the kept values" of the hour, any record, and not its phases. "Refusals: 1, 2, 14, then the Moon's 3, 4, 5, the Sun's, and 6"; "where a
+    call is refused nothing of either step is added".
     """
     refusal = field_test(N, C, S) or selection_test(selection)
     if not refusal:
-        refusal, corrections = solid_corrections(moon, sun, love, phases, selection)
+        refusal, corrections = solid_corrections(moon, sun, love, hour, selection)
     if refusal:
         return refusal, None, list(C), list(S)
     return 0, len(named_lines(selection)), *added(C, S, corrections)

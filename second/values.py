@@ -1,4 +1,5 @@
-"""Makes the cases that the program `run` runs the unit's calls on, and the lines that it must print, from tides.py alone; and cases of own_lines.
+"""Makes the cases that the program `run` runs the unit's calls on, and the lines that it must print, from tides.py alone; and cases for the C
+boundary.
 
 python3 values.py           writes stdin and stdout of crates/run, and tests/boundary/stored.txt
 python3 values.py --check   makes them anew; exits 1 with one line where a stored file differs
@@ -6,7 +7,11 @@ python3 values.py --check   makes them anew; exits 1 with one line where a store
 Numbers stand little-endian. The input begins with the number of its cases, in 32 bits. A case is a byte for the call, and what it takes; a call
 over a field takes first the degree, the lengths of both lists, and their entries. A line is the refusal's number, or 0 and the values
 answered; of a call over a field, every entry of both lists as they are afterwards follows.
-The cases of own_lines stand in the words that tests/boundary/values.py writes for the C boundary, each on a field of its own.
+An hour is the number of its steps, in 32 bits, and the steps, from the start: a byte 0 and six phases, which are set; a byte 1, a byte for the
+argument, 0..5, and a signed amount in 32 bits, by which it is moved; or a byte 2, six phases, 49 cosines and 49 sines, a record written by
+hand. The call 7 takes an hour alone and answers its six phases, cosines and sines; the call 4 takes one in place of phases.
+The cases of own_lines, and some of hours, stand in the words that tests/boundary/values.py writes for the C boundary; each call over a field has
+one of its own.
 These are about a thousand cases, which show each call at its edges. tests/boundary/values.py holds the calls to thousands, made when it runs.
 """
 
@@ -26,7 +31,7 @@ from given import EDGE, GOOD, LEAST_32, LEAST_64, NONE, SMALL, U32, placed, spoi
 
 ROOT = Path(__file__).resolve().parent.parent
 BOUNDARY = run_path(str(ROOT / 'tests' / 'boundary' / 'values.py'))
-chance = Chance(19960622)
+chance, ways = Chance(19960622), Chance(19960624)
 
 LOVES = t.ELASTIC, t.ANELASTIC
 FRAMES = t.FIGURE, t.MASS
@@ -36,6 +41,7 @@ BEYOND = EDGE, EDGE + 1, -EDGE, -EDGE - 1, LEAST_64, -1 - LEAST_64
 
 cases, lines, worded, tally = [], [], [], Counter()
 lent = []                # every call over a field: its name, what it does to a field, and the field
+hours, hours_in_words = [], []                   # the steps of every hour asked for
 
 
 def case(kind, call, data, number, values):
@@ -85,6 +91,20 @@ def numbers():
         moved(c20, t.TIDE_FREE, t.MEAN, t.ANELASTIC)
 
 
+# --- Hours ---
+
+STEPS = {given.SET: '<B6I', given.MOVE: '<BBi', given.WRITE: '<B6I98i'}
+
+
+def hour_bytes(steps):
+    return struct.pack('<I', len(steps)) + b''.join(struct.pack(STEPS[step[0]], *step) for step in steps)
+
+
+def hour(steps):
+    case(7, 'hour', hour_bytes(steps), 0, (value for part in given.hour_after(steps) for value in part))
+    hours.append(steps)
+
+
 # --- Calls over a field ---
 
 def over_field(N, C, S, call):
@@ -102,19 +122,24 @@ def body_bytes(body):
     return struct.pack('<dB4d', ratio, KINDS.index(kind), *floats)
 
 
-def solid_tide(moon, sun, love, phases, selection):
-    data = bytes((LOVES.index(love),)) + body_bytes(moon) + body_bytes(sun) + struct.pack('<6IQ', *phases, selection)
-    return 4, 'solid_tide', data, lambda N, C, S: t.solid_tide(N, C, S, moon, sun, love, phases, selection)
+def solid_tide(moon, sun, love, steps, selection):
+    data = bytes((LOVES.index(love),)) + body_bytes(moon) + body_bytes(sun) + hour_bytes(steps) + struct.pack('<Q', selection)
+    return 4, 'solid_tide', data, lambda N, C, S: t.solid_tide(N, C, S, moon, sun, love, given.hour_after(steps), selection)
+
+
+def at_phases(moon, sun, love, phases, selection):
+    """The solid tide of an hour that is brought to these phases."""
+    return solid_tide(moon, sun, love, given.steps_to(ways, phases), selection)
 
 
 def by_bodies(moon, sun, love):
     """The solid tide of these bodies, with any phases and lines."""
-    return solid_tide(moon, sun, love, given.phases(chance), given.lines_or_none(chance))
+    return at_phases(moon, sun, love, given.phases(chance), given.lines_or_none(chance))
 
 
 def by_lines(phases, love, selection=t.ALL_LINES):
     """The solid tide of these lines, with any bodies that pass."""
-    return solid_tide(*telling.pair(chance), love, phases, selection)
+    return at_phases(*telling.pair(chance), love, phases, selection)
 
 
 def ocean_tide(sheet, phases, frame):
@@ -172,7 +197,7 @@ def bodies():
         heavy = lambda ratio: (ratio, placed(KINDS[i // 2 % 2], *axis, 1e8))
         for ratio in last_passing(lambda ratio: t.step_one_corrections(heavy(ratio), GOOD[0], love)[0] == 0, 1.0, 1e6):
             over_field(*ZEROS, by_bodies(heavy(ratio), GOOD[0], love))
-            over_field(*ZEROS, solid_tide(heavy(ratio), GOOD[0], love, given.phases(chance), t.ALL_LINES))
+            over_field(*ZEROS, at_phases(heavy(ratio), GOOD[0], love, given.phases(chance), t.ALL_LINES))
         over_field(*ZEROS, by_bodies(heavy(1e6), spoilt_body(GOOD[0], 1, 7.0), love))
 
 
@@ -189,7 +214,7 @@ def orders():
     """Any two faults of the solid tide, and all from any one on: the number that is first in its order."""
     for faults in (*combinations(range(10), 2), *combinations(range(10), 2), *(range(first, 10) for first in range(10))):
         field, moon, sun, selection = given.solid_with(chance, faults)
-        over_field(*field, solid_tide(moon, sun, chance.one(*LOVES), given.phases(chance), selection))
+        over_field(*field, at_phases(moon, sun, chance.one(*LOVES), given.phases(chance), selection))
 
 
 def solid():
@@ -208,7 +233,7 @@ def solid():
     for love in LOVES:
         for phases in (NONE, (1 << 30, 0, 0, 0, 0, 0), (U32,) * 6, *telling.tie_phases(), *telling.QUARTERS):
             over_field(*ZEROS, by_lines(phases, love))
-        over_field(*ZEROS, solid_tide(*telling.DAY_BODIES, love, telling.DAY_PHASES, t.ALL_LINES))
+        over_field(*ZEROS, at_phases(*telling.DAY_BODIES, love, telling.DAY_PHASES, t.ALL_LINES))
     for place, k in product(range(6), range(8)):                                # each argument beside an edge of the eighths
         over_field(*ZEROS, by_lines(tuple(spoilt(NONE, place, (k << 29) + chance.between(-1, 1) & U32)), LOVES[k % 2]))
     over_field(*given.varied_field(chance, 60), any_call(t.ANELASTIC))
@@ -220,7 +245,7 @@ def beyond_the_range():
     for edge in (EDGE, -EDGE):
         call = by_lines(given.phases(chance), t.ELASTIC)
         over_field(*over_field(4, [edge] * 15, [edge] * 15, call), call)
-    field, call = telling.day_field(), solid_tide(*telling.DAY_BODIES, t.ANELASTIC, telling.DAY_PHASES, t.ALL_LINES)
+    field, call = telling.day_field(), at_phases(*telling.DAY_BODIES, t.ANELASTIC, telling.DAY_PHASES, t.ALL_LINES)
     for _ in range(3):
         field = over_field(*field, call)
 
@@ -274,11 +299,16 @@ def ocean():
     over_field(*given.varied_field(chance, 60), ocean_tide(any_sheet(128, 32, 90), given.phases(chance), t.MASS))
 
 
-# --- Tide lines of our own, as words ---
+# --- As words ---
+
+def in_words(case):
+    worded.extend(' '.join(map(str, words)) for words in BOUNDARY['words'](case))
+
+
+# --- Tide lines of our own, in words ---
 
 def own_lines(N, C, S, records, phases):
-    call = BOUNDARY['own_lines'](records, phases)
-    worded.extend(' '.join(map(str, words)) for words in BOUNDARY['words'](((N, C, S), [call])))
+    in_words(((N, C, S), [BOUNDARY['own_lines'](records, phases)]))
     does = lambda N, C, S: t.own_lines(N, C, S, records, phases)
     tally['own_lines', does(N, C, S)[0]] += 1
     lent.append(('own_lines', does, (N, C, S)))
@@ -356,9 +386,44 @@ def pole():
     over_field(*given.varied_field(chance, 60), pole_tide(*given.offsets(chance), t.ANELASTIC))
 
 
+# --- Sines kept with the hour ---
+
+def hour_in_words(steps):
+    in_words(('hour', steps))
+    hours_in_words.append(steps)
+    tally['hour', BOUNDARY['hour_answer'](steps)[0]] += 1
+
+
+def kept():
+    """Hours that tell slips, and two long ways; then solid tides of such hours, one hour for several fields, and refused ones.
+
+    In words, numbers that name no argument: last, and before other steps.
+    """
+    move, held = given.MOVE, given.written(telling.HELD)
+    for steps in telling.hour_steps():
+        hour(steps)
+    way = lambda first, then: [*(given.set_or_move(chance) for _ in range(first)), *(given.move(chance) for _ in range(then))]
+    hour(way(20, 20))
+    hour([*way(4, 2), given.written(given.any_hour(chance)), *way(0, 4)])
+    for steps, love, selection in telling.kept_calls():
+        over_field(*ZEROS, solid_tide(*telling.pair(chance), love, steps, selection))
+    call = solid_tide(*telling.pair(chance), t.ANELASTIC, way(4, 8), t.ALL_LINES)
+    for N in (4, 5, 4):
+        after = over_field(*given.varied_field(chance, N), call)
+    over_field(*after, call)
+    over_field(*ZEROS, solid_tide(*telling.pair(chance), t.ELASTIC, [held], 1 << 49))
+    for tried in ([6], [U32], [256, 0], [(1 << 16) + 1, 5], [2, (1 << 31) + 3]):
+        hour_in_words([held, *((move, number, 1 << 29) for number in tried)])
+    hour_in_words([])
+    hour_in_words([given.all_set(telling.DAY_PHASES), *((move, at, LEAST_32 + at) for at in range(6))])
+    for steps in ([given.all_set(telling.DAY_PHASES), (move, 6, 1)], [held, (move, 1 << 8, 1), (move, 4, -1)]):
+        in_words((ZEROS, [BOUNDARY['solid_tide'](*telling.DAY_BODIES, steps, t.ALL_LINES, 1)]))
+        tally['solid_tide', 0] += 1
+
+
 def make():
     """Every case, in the order in which it is stored."""
-    for part in (numbers, solid, ocean, own, selections, pole):
+    for part in (numbers, solid, ocean, own, selections, pole, kept):
         part()
 
 
@@ -375,7 +440,8 @@ def main():
             print(f'{name} differs from what second/values.py makes')
             sys.exit(1)
     by_number = ', '.join(f'{call} {number}: {count}' for (call, number), count in sorted(tally.items()))
-    print(f'stored cases: {len(cases)} for run, {len(worded) // 2} as words; by call and number: {by_number}')
+    calls = sum(not line.startswith('field ') for line in worded)
+    print(f'stored cases: {len(cases)} for run, {calls} as words; by call and number: {by_number}')
 
 
 if __name__ == '__main__':

@@ -3,6 +3,11 @@
 `field`, a degree and two lists lend a field; the calls after it are made on it in turn. A call is its name, what is given (floats as their bits,
 records after how many there are), the number answered, where that is 0 the results, and on a field for each list the entries changed. All other
 entries must stay as they were.
+
+An hour is how many steps there are and the steps, from the start: `0` and six phases, which are set; `1`, an argument's number and the amount it
+is moved by, or any other number, which is answered by 100 and changes nothing; `2`, six phases, 49 cosines and 49 sines, a record written by
+hand. `solid_tide` takes one in place of phases. `hour` has one, the number that its last step answers, 0 where there is none, and always the six
+phases, 49 cosines and 49 sines that the record has in the end.
 """
 
 import struct
@@ -28,23 +33,31 @@ NO_CHOICES = (3, 255, 256, 1 << 31, (1 << 31) + 1, g.U32)
 ZEROS = 4, [0] * 15, [0] * 15
 HALVES = 120             # Moons and Suns for each coefficient and Love model
 
-chance = Chance(19960621)
+chance, ways = Chance(19960621), Chance(19960625)
 
 
 # --- Calls: what is given, by the numbers that C uses for the choices ---
 
-def solid_tide(moon, sun, phases, selection, love):
-    return 'solid_tide', love, *((KINDS.index(kind), ratio, *floats) for ratio, (kind, *floats) in (moon, sun)), phases, selection
+def solid_tide(moon, sun, steps, selection, love):
+    return 'solid_tide', love, *((KINDS.index(kind), ratio, *floats) for ratio, (kind, *floats) in (moon, sun)), steps, selection
+
+
+def at_phases(moon, sun, phases, selection, love):
+    """The solid tide of an hour that is brought to these phases, one time in 16 with a number that names no argument among its steps."""
+    steps = g.steps_to(ways, phases)
+    if ways.one_in(16):
+        steps.insert(ways.below(len(steps) + 1), no_argument(ways))
+    return solid_tide(moon, sun, steps, selection, love)
 
 
 def by_bodies(moon, sun, love):
     """The solid tide of these bodies, with any phases and lines."""
-    return solid_tide(moon, sun, g.phases(chance), g.lines_or_none(chance), love)
+    return at_phases(moon, sun, g.phases(chance), g.lines_or_none(chance), love)
 
 
 def by_lines(phases, love, selection=t.ALL_LINES):
     """The solid tide of these lines, with any bodies that pass."""
-    return solid_tide(*telling.pair(chance), phases, selection, love)
+    return at_phases(*telling.pair(chance), phases, selection, love)
 
 
 def ocean_tide(data, phases, frame):
@@ -70,6 +83,12 @@ def named(cases, number):
     return cases[number] if number < len(cases) else None
 
 
+def hour_answer(steps):
+    """The number that the last step answers, and the record."""
+    refused = steps and steps[-1][0] == g.MOVE and named(t.ARGUMENTS, steps[-1][1]) is None
+    return NO_SUCH_CHOICE if refused else 0, g.hour_after(steps)
+
+
 def on_field(call, N, C, S):
     """(number, results if there are any, C after, S after) of a call on a field."""
     name, *args = call
@@ -77,11 +96,11 @@ def on_field(call, N, C, S):
         return t.own_lines(N, C, S, *args)
     choice, *rest = args
     if name == 'solid_tide':
-        *bodies, phases, selection = rest
+        *bodies, steps, selection = rest
         love, kinds = named(LOVES, choice), [named(KINDS, one[0]) for one in bodies]
         if love and all(kinds):
             moon, sun = ((ratio, (kind, *floats)) for kind, (_, ratio, *floats) in zip(kinds, bodies))
-            return t.solid_tide(N, C, S, moon, sun, love, phases, selection)
+            return t.solid_tide(N, C, S, moon, sun, love, g.hour_after(steps), selection)
     elif name == 'pole_tide':
         if named(LOVES, choice):
             return t.pole_tide(N, C, S, *rest, named(LOVES, choice))
@@ -124,6 +143,10 @@ def bits(x):
     return struct.unpack('<Q', struct.pack('<d', x))[0]
 
 
+def hour_words(steps):
+    return len(steps), *(word for step in steps for word in step)
+
+
 def given_words(call):
     name, *args = call
     if name == 'own_lines':
@@ -131,8 +154,8 @@ def given_words(call):
         return name, len(records), *(word for record in records for word in record), *phases
     choice, *rest = args
     if name == 'solid_tide':
-        *bodies, phases, selection = rest
-        return name, choice, *(word for kind, *floats in bodies for word in (kind, *map(bits, floats))), *phases, selection
+        *bodies, steps, selection = rest
+        return name, choice, *(word for kind, *floats in bodies for word in (kind, *map(bits, floats))), *hour_words(steps), selection
     if name == 'pole_tide':
         return call
     return name, choice, *rest[0], len(rest[1]), rest[1].hex() or '-'
@@ -140,6 +163,10 @@ def given_words(call):
 
 def words(case):
     """The lines of a case: a field and calls on it, or one call without a field."""
+    if case[0] == 'hour':
+        number, hour = hour_answer(case[1])
+        yield 'hour', *hour_words(case[1]), number, *(word for part in hour for word in part)
+        return
     if isinstance(case[0], str):
         number, results = alone(*case)
         yield *case, number, *(() if number else results)
@@ -246,7 +273,7 @@ def bodies():
             yield field, [by_bodies(worse, one, 0), by_bodies(one, worse, 1), by_bodies(worse, worse, 1)]
     for number, fault in faults[::9]:
         for bad in (2, *NO_CHOICES):
-            name, love, moon, sun, *rest = solid_tide(fault, fault, g.phases(chance), g.selection(chance), some_love())
+            name, love, moon, sun, *rest = at_phases(fault, fault, g.phases(chance), g.selection(chance), some_love())
             lent = chance.one(field, (3, *field[1:]), (4, g.spoilt(field[1], chance.below(15), g.EDGE + 1), field[2]))
             yield lent, [(name, love, (bad, *moon[1:]), sun, *rest), (name, love, moon, (bad, *sun[1:]), *rest)]
 
@@ -255,7 +282,7 @@ def orders():
     """Every set of faults of the solid tide, those of two more often: the number that is first in its order."""
     for faults in (some for count in (2, 2, 2, 2, *range(1, 11)) for some in combinations(range(10), count)):
         field, moon, sun, selection = g.solid_with(chance, faults)
-        yield field, [solid_tide(moon, sun, g.phases(chance), selection, some_love())]
+        yield field, [at_phases(moon, sun, g.phases(chance), selection, some_love())]
 
 
 def body_edges():
@@ -294,11 +321,11 @@ def bounds_of_six():
 
 
 def at_a_half(coefficient, love, which=None):
-    return solid_tide(*telling.at_a_half(chance, coefficient, LOVES[love], which), g.phases(chance), g.few_lines(chance), love)
+    return at_phases(*telling.at_a_half(chance, coefficient, LOVES[love], which), g.phases(chance), g.few_lines(chance), love)
 
 
 def at_a_small_half(coefficient, love, goal):
-    return solid_tide(*telling.at_a_small_half(chance, coefficient, LOVES[love], goal), g.phases(chance), 0, love)
+    return at_phases(*telling.at_a_small_half(chance, coefficient, LOVES[love], goal), g.phases(chance), 0, love)
 
 
 def halves():
@@ -393,6 +420,131 @@ def selections_refused():
         call = some_lines(selection)
         yield from choices(call)
         yield from some_fields(call)
+
+
+# --- Hours ---
+
+NO_ARGUMENTS = (6, 7, 8, 15, 255, 256, 257, 261, 1 << 16, (1 << 16) + 5, 1 << 31, (1 << 31) + 3, g.U32 - 1, g.U32)
+
+
+def no_argument(chance):
+    """A move whose number names no argument."""
+    return g.MOVE, chance.one(*NO_ARGUMENTS, chance.between(6, g.U32)), g.amount(chance)
+
+
+def any_step(chance):
+    """A step of any kind, most of them accepted moves."""
+    step = chance.one(g.set_or_move, g.move, g.move, g.move, no_argument, lambda chance: g.written(g.any_hour(chance)))
+    return step(chance)
+
+
+def a_way(chance, most):
+    """Up to so many steps of any kind."""
+    return [any_step(chance) for _ in range(chance.between(1, most))]
+
+
+def before(chance):
+    """Steps to a record of any kind: none, a set, some sets and moves, a record written by hand."""
+    return chance.one([], [g.all_set(g.phases(chance))], [g.set_or_move(chance) for _ in range(4)], [g.written(g.any_hour(chance))])
+
+
+def moved_each():
+    """Each argument moved: by amounts at the ends and by eighths, from anywhere, and past the turn's end and start, to it and one beside it."""
+    for at, amount in product(range(6), (*g.AMOUNTS, *g.EIGHTHS, 2, -2, 1 << 30 | 1, chance.between(g.LEAST_32, g.MOST_32))):
+        yield [(g.MOVE, at, amount)]
+        yield [*before(chance), (g.MOVE, at, amount)]
+        yield [g.all_set(g.phases(chance)), (g.MOVE, at, amount), (g.MOVE, at, amount)]
+        for beyond in (-1, 0, 1):                                       # the phase that the amount takes there
+            yield [g.all_set(g.spoilt(g.phases(chance), at, beyond - amount & g.U32)), (g.MOVE, at, amount)]
+
+
+def held_and_moved():
+    """Records written by hand: alone, each argument of them moved, set again to their phases or to them with one changed, and moved after."""
+    for hour in (telling.HELD, *telling.EXTREMES, *(g.any_hour(chance) for _ in range(12))):
+        held = g.written(hour)
+        yield [held]
+        yield [*before(chance), held]
+        for at in range(6):
+            yield [held, (g.MOVE, at, 0)]
+            yield [held, (g.MOVE, at, g.amount(chance))]
+            yield [held, g.all_set(g.spoilt(hour.phases, at, g.phase(chance)))]
+        yield [held, g.all_set(hour.phases)]
+        yield [held, g.move(chance), g.move(chance), g.move(chance)]
+        yield [held, g.all_set(g.phases(chance)), g.move(chance)]
+
+
+def in_parts():
+    """Moved by two amounts, and by their sum; by nothing; each argument in any order; and all the way by moves, and set."""
+    for _ in range(60):
+        start, at = before(chance), chance.below(6)
+        a, b = g.amount(chance), g.amount(chance)
+        yield [*start, (g.MOVE, at, a), (g.MOVE, at, b)]
+        yield [*start, (g.MOVE, at, g.in_32(a + b))]
+        yield [*start, (g.MOVE, at, a), (g.MOVE, at, g.in_32(-a))]
+    for _ in range(30):
+        phases = g.phases(chance)
+        moves = [(g.MOVE, at, g.in_32(phase)) for at, phase in enumerate(phases)]
+        yield moves
+        yield moves[::-1]
+        yield [g.all_set(phases), *((g.MOVE, at, 0) for at in range(6))]
+
+
+def hours():
+    """Hours alone: those that tell slips, each move, numbers that name no argument, and ways of every kind and length."""
+    for steps in (*telling.hour_steps(), *moved_each(), *held_and_moved(), *in_parts()):
+        yield 'hour', steps
+    for number in NO_ARGUMENTS:
+        for start in ([], before(chance), [g.written(telling.HELD)]):
+            wrong = g.MOVE, number, g.amount(chance)
+            yield 'hour', [*start, wrong]
+            yield 'hour', [*start, wrong, g.move(chance)]
+            yield 'hour', [*start, g.move(chance), wrong, wrong]
+    for _ in range(150):
+        yield 'hour', [g.all_set(g.phases(chance)) for _ in range(chance.between(1, 3))]
+        yield 'hour', [g.set_or_move(chance) for _ in range(chance.between(1, 9))]
+        yield 'hour', a_way(chance, 9)
+    for _ in range(10):
+        yield 'hour', [g.set_or_move(chance) for _ in range(100)]
+        yield 'hour', [g.all_set(g.phases(chance)), *(g.move(chance) for _ in range(60))]
+        yield 'hour', a_way(chance, 60)
+
+
+def of_hour(steps, love, selection=t.ALL_LINES):
+    """The solid tide of this hour, with any bodies that pass."""
+    return solid_tide(*telling.pair(chance), steps, selection, love)
+
+
+def hours_used():
+    """Solid tides of hours that tell slips, of each line alone and of any other record; moved before use; one hour for several fields; refused."""
+    yield from in_row([of_hour(steps, LOVES.index(love), selection) for steps, love, selection in telling.kept_calls()], 9, ZEROS)
+    for i, hour in product(g.LINES, (telling.one_line, lambda i: t.Hour(g.NONE, *(tuple(g.spoilt([0] * 49, i, g.value(chance))) for _ in 'cs')))):
+        steps = [g.written(hour(i))]
+        yield ZEROS, [of_hour(steps, love, selection) for love in range(2) for selection in (t.ALL_LINES, t.ALL_LINES ^ 1 << i, 1 << i)]
+    for hour, selection in product((*telling.EXTREMES, telling.throughout(g.MOST_32, g.LEAST_32), telling.throughout(g.LEAST_32, g.MOST_32)),
+                                   (t.ALL_LINES, t.MAJOR_LINES, *g.BANDS, 0, g.few_lines(chance))):
+        yield ZEROS, either(lambda love: of_hour([g.written(hour)], love, selection))
+    for at, _ in product(range(6), range(12)):
+        hour = g.any_hour(chance)
+        steps = [g.written(hour), (g.MOVE, at, g.amount(chance))]
+        yield ZEROS, [of_hour(steps[:1], 1), of_hour(steps, 1), of_hour(steps, 0), of_hour([*steps, g.all_set(hour.phases)], 1)]
+    for _ in range(120):
+        steps, field = a_way(chance, 6), chance.one(g.varied_field, g.any_field)(chance, chance.between(4, 8))
+        yield field, [of_hour(steps, some_love(), g.selection(chance)), of_hour(steps, some_love())]
+    for _ in range(20):
+        call = of_hour(a_way(chance, 9), some_love(), g.accepted_selection(chance))
+        for N in (4, 5, 4, chance.between(4, 14)):
+            yield g.any_field(chance, N), [call]
+        yield g.varied_field(chance, 4), [call, some_pole(g.offsets(chance)), call]
+    for faults in (some for count in (1, 2) for some in combinations(range(10), count)):
+        field, moon, sun, selection = g.solid_with(chance, faults)
+        yield field, [solid_tide(moon, sun, [g.written(g.any_hour(chance))], selection, some_love())]
+    call = of_hour([g.written(telling.HELD)], 1)
+    yield from choices(call)
+    yield from some_fields(call)
+    for N in (4, 5, 17, 60):                                            # on its own result, and refused with 2 where that left the range
+        calls = [of_hour([g.written(hour)], some_love()) for hour in telling.EXTREMES[:2]]
+        yield (N, [g.EDGE] * t.size(N), [-g.EDGE] * t.size(N)), calls
+        yield (N, [-g.EDGE] * t.size(N), [g.EDGE] * t.size(N)), calls[::-1]
 
 
 # --- Tide lines of our own ---
@@ -602,7 +754,7 @@ def printed():
     nine = g.write_sheet([(2, 0, 0, 0, 0, 0)], [[1_000_000]], [(2, 2, [(1000, 0, 0, -500)])])
     for tau, data in product((0, 1 << 29), (nine, nine[:33], nine + b'\0')):
         yield ZEROS, either(ocean_tide, data, (tau, 0, 0, 0, 0, 0))
-    day = either(solid_tide, *telling.DAY_BODIES, telling.DAY_PHASES, t.ALL_LINES)
+    day = either(at_phases, *telling.DAY_BODIES, telling.DAY_PHASES, t.ALL_LINES)
     yield ZEROS, day
     yield telling.day_field(), day[1:] * 3                              # out of the range by step one alone, then by both, then refused
 
@@ -612,7 +764,7 @@ def cases():
     yield from printed()
     yield from numbers()
     low = g.write_sheet(*g.SMALL[:2], g.SMALL[2][:2])                   # its places of degree 1 alone
-    for call in (solid_tide(*g.GOOD, (1, 2, 3, 4, 5, 6), t.ALL_LINES, 1), ocean_tide(low, (6, 5, 4, 3, 2, 1), 0)):
+    for call in (at_phases(*g.GOOD, (1, 2, 3, 4, 5, 6), t.ALL_LINES, 1), ocean_tide(low, (6, 5, 4, 3, 2, 1), 0)):
         yield from fields(call)
         yield from choices(call)
     for part in (bodies, orders, body_edges, bounds_of_six, ordinary_bodies, halves, lines, layouts, sheet_values, synthesis, ocean_ties, waves):
@@ -623,14 +775,14 @@ def cases():
     pole = pole_tide(*telling.POLE_OFFSETS[1], 1)
     yield from fields(pole)
     yield from choices(pole)
-    for part in (offsets_refused, offsets_alone, pole_offsets):
+    for part in (offsets_refused, offsets_alone, pole_offsets, hours, hours_used):
         yield from part()
 
 
 def main():
     for case in cases():
         for line in words(case):
-            print(*line)
+            print(' '.join(map(str, line)))
 
 
 if __name__ == '__main__':

@@ -53,3 +53,11 @@ module _ (n : ℕ) (h : 0 < n) where
       let m = natAbs (k +ℤ pos n) in
       only-modulo k (m / n) 1 n (m % n) (mod-lt m h)
       (omega (arith, sum k (pos n), div-add-mod m n, abs-positive (k +ℤ pos n) (omega (arith, sum k (pos n)))))
+
+  -- of a number that is below n already
+  pub modulo-below : (a : ℕ) → a < n → a ≡ modulo (pos a) n
+  modulo-below a l = only-modulo (pos a) 0 0 n a l (omega arith)
+
+  -- below n
+  pub modulo-lt : (z : ℤ) → modulo z n < n
+  modulo-lt z = omega (arith, divided z n h, floored z n h .roof)

@@ -4,7 +4,6 @@ use mathlib.Core.List.{List}
 use mathlib.Core.Path.{_≡_, ap, subst}
 use Prim.Native.Nat.{ℕ}
 use lib.IntN.{ℤ}
-use Rattle.arguments.specs.declared.Phases.{Phases}
 use Rattle.bodies.specs.declared.Body.{Body}
 use Rattle.choices.specs.declared.LoveModel.{LoveModel}
 use Rattle.choices.specs.declared.PermanentSystem.{PermanentSystem}
@@ -12,6 +11,7 @@ use Rattle.crossing.specs.declared.GivenBody.{GivenBody}
 use Rattle.crossing.specs.Choices.{chosen, loveModel, permanentSystem, bodyOf}
 use Rattle.crossing.specs.Inner.{names, Converts}
 use Rattle.crossing.proofs.Choices.{hundred, one-named, one-missing, three-named, three-missing}
+use Rattle.hour.specs.declared.Hour.{Hour}
 use Rattle.permanent.specs.Systems.{movedC20}
 use Rattle.leaving.specs.Leaving.{Leaves, GivesAndLeaves}
 use Rattle.refusals.specs.Outcome.{Outcome, GivesValue}
@@ -37,18 +37,18 @@ module _ {A : Type 0} (c s : List ℤ) (cases : List A) (number : ℕ) (call : A
   choice-missing e = ap (outcomeOf c s) (one-missing (chosen cases number) (λ a. accepted (call a)) (hundred cases number) e)
 
 -- a model and two bodies
-module _ (n : ℕ) (c s : List ℤ) (moon sun : GivenBody) (love : ℕ) (phases : Phases) (selection : ℕ) where
+module _ (n : ℕ) (c s : List ℤ) (moon sun : GivenBody) (love : ℕ) (hour : Hour) (selection : ℕ) where
   pub solid-named : (m b : Body) (k : LoveModel) → (names (loveModel love) && names (bodyOf moon) && names (bodyOf sun)) ≡ true → Converts (loveModel love) k → Converts (bodyOf moon) m
-      → Converts (bodyOf sun) b → solidGiven n c s moon sun love phases selection ≡ solidTide n c s m b k phases selection
+      → Converts (bodyOf sun) b → solidGiven n c s moon sun love hour selection ≡ solidTide n c s m b k hour selection
   unfolding solidGiven
   solid-named m b k e h i j =
-      ap (outcomeOf c s) (three-named (loveModel love) (bodyOf moon) (bodyOf sun) (λ k m b. accepted (solidTide n c s m b k phases selection)) k m b e h i j)
+      ap (outcomeOf c s) (three-named (loveModel love) (bodyOf moon) (bodyOf sun) (λ k m b. accepted (solidTide n c s m b k hour selection)) k m b e h i j)
 
-  pub solid-missing : (names (loveModel love) && names (bodyOf moon) && names (bodyOf sun)) ≡ false → solidGiven n c s moon sun love phases selection ≡ kept c s
+  pub solid-missing : (names (loveModel love) && names (bodyOf moon) && names (bodyOf sun)) ≡ false → solidGiven n c s moon sun love hour selection ≡ kept c s
   unfolding solidGiven
   solid-missing e =
       ap (outcomeOf c s)
-      (three-missing (loveModel love) (bodyOf moon) (bodyOf sun) (λ k m b. accepted (solidTide n c s m b k phases selection)) (hundred _ love) (hundred _ (moon .kind)) (hundred _ (sun .kind)) e)
+      (three-missing (loveModel love) (bodyOf moon) (bodyOf sun) (λ k m b. accepted (solidTide n c s m b k hour selection)) (hundred _ love) (hundred _ (moon .kind)) (hundred _ (sun .kind)) e)
 
 module _ (c20 : ℤ) (from to love : ℕ) where
   pub move-named : (f t : PermanentSystem) (k : LoveModel) → (names (permanentSystem from) && names (permanentSystem to) && names (loveModel love)) ≡ true → Converts (permanentSystem from) f

@@ -6,12 +6,14 @@ use Rattle.arguments.specs.declared.Phases.{Phases}
 use Rattle.refusals.specs.Told.{Told, next}
 use Rattle.refusals.specs.Told.Told.{accepted, refused}
 use Rattle.doodson.specs.Doodson.{readDoodson}
+use Rattle.hour.specs.declared.Hour.{Hour}
+use Rattle.hour.specs.Hour.{movedHour}
 use Rattle.refusals.specs.Outcome.{Outcome}
 use Rattle.leaving.specs.Leaving.{listedOf}
 use Rattle.permanent.specs.Systems.{movedC20}
 use Rattle.surfgimlet.specs.Calls.{solidTide, poleTide, oceanTide}
 use Rattle.crossing.specs.declared.GivenBody.{GivenBody}
-use Rattle.crossing.specs.Choices.{loveModel, frameOf, permanentSystem, bodyOf}
+use Rattle.crossing.specs.Choices.{loveModel, frameOf, permanentSystem, argumentOf, bodyOf}
 
 -- a version's number, of its major, minor and patch number
 abbrev pub versionNumber : ℕ → ℕ → ℕ → ℕ
@@ -22,9 +24,12 @@ abbrev pub outcomeOf : List ℤ → List ℤ → Told Outcome → Outcome
 outcomeOf c s (accepted outcome) = outcome
 outcomeOf c s (refused number) = record { number = number; c = c; s = s }
 
-unfoldable pub solidGiven : ℕ → List ℤ → List ℤ → GivenBody → GivenBody → ℕ → Phases → ℕ → Outcome
-solidGiven n c s moon sun love phases selection =
-    outcomeOf c s (next (loveModel love) (λ k. next (bodyOf moon) (λ m. next (bodyOf sun) (λ b. accepted (solidTide n c s m b k phases selection)))))
+unfoldable pub solidGiven : ℕ → List ℤ → List ℤ → GivenBody → GivenBody → ℕ → Hour → ℕ → Outcome
+solidGiven n c s moon sun love hour selection =
+    outcomeOf c s (next (loveModel love) (λ k. next (bodyOf moon) (λ m. next (bodyOf sun) (λ b. accepted (solidTide n c s m b k hour selection)))))
+
+abbrev pub hourGiven : Hour → ℕ → ℤ → Told Hour
+hourGiven hour argument amount = next (argumentOf argument) (λ a. accepted (movedHour hour a amount))
 
 unfoldable pub poleGiven : ℕ → List ℤ → List ℤ → ℤ → ℤ → ℕ → Outcome
 poleGiven n c s xp yp love = outcomeOf c s (next (loveModel love) (λ k. accepted (poleTide n c s xp yp k)))

@@ -3,33 +3,35 @@
 ghost use mathlib.Core.Path.{_≡_};
 ghost use Rattle.crossing.specs.Choices.{unlisted};
 ghost use Rattle.doodson.specs.Doodson.{writeDoodson};
+ghost use Rattle.hour.specs.Hour.{hourAt, startHour};
 ghost use Rattle.leaving.specs.Leaving.{found, Leaves, GivesAndLeaves};
 ghost use Rattle.lines.specs.Lines.{findLine};
 ghost use Rattle.refusals.specs.Outcome.{Gives};
 ghost use Rattle.surfgimlet.specs.Calls.{ownLines};
 ghost use Rattle.profiles.specs.Profiles.{allLines, majorLines};
 ghost use Rattle.selection.specs.Selection.{linesNamed};
-ghost use Rattle.boundary.specs.Calls.{versionNumber, solidGiven, poleGiven, oceanGiven, moveGiven, multipliersGiven};
+ghost use Rattle.boundary.specs.Calls.{versionNumber, solidGiven, hourGiven, poleGiven, oceanGiven, moveGiven, multipliersGiven};
 use arguments::Phases;
 use bodies::Body;
 use choices::Frame;
 use choices::LoveModel;
 use choices::PermanentSystem;
 use crossing::GivenBody;
+use hour::Hour;
 use own::OwnLine;
 
 const NO_SUCH_CHOICE: u32 = 100;
 
-const MAJOR: u32 = 3;
+const MAJOR: u32 = 4;
 
-const MINOR: u32 = 1;
+const MINOR: u32 = 0;
 
 const PATCH: u32 = 0;
 
 // The version as one number, which SURFGIMLET_VERSION of the header equals.
 #[no_mangle]
 pub extern "C" fn surfgimlet_version() -> u32
-    ensures { λ r. ⌜ r ≡ versionNumber 3 1 0 ⌝ }
+    ensures { λ r. ⌜ r ≡ versionNumber 4 0 0 ⌝ }
 {
     1000000 * MAJOR + 1000 * MINOR + PATCH
 }
@@ -43,20 +45,55 @@ pub extern "C" fn surfgimlet_solid_tide(
     moon: GivenBody,
     sun: GivenBody,
     love: u32,
-    phases: Phases,
+    hour: Hour,
     selection: u64,
     lines: &mut u32,
 ) -> u32
-    ensures { λ r. ⌜ GivesAndLeaves (solidGiven n (now (c .entry)) (now (s .entry)) moon sun love phases selection) (linesNamed selection) r (now (c .exit)) (now (s .exit)) (now (lines .entry)) (now (lines .exit)) ⌝ }
+    ensures { λ r. ⌜ GivesAndLeaves (solidGiven n (now (c .entry)) (now (s .entry)) moon sun love hour selection) (linesNamed selection) r (now (c .exit)) (now (s .exit)) (now (lines .entry)) (now (lines .exit)) ⌝ }
 {
     if crossing::is_love(love) & crossing::is_body(moon) & crossing::is_body(sun) {
         let moon: Body = crossing::body_of(moon);
         let sun: Body = crossing::body_of(sun);
         let love: LoveModel = crossing::love_of(love);
-        let told = surfgimlet::solid_tide(n, c, s, moon, sun, love, phases, selection);
+        let told = surfgimlet::solid_tide(n, c, s, moon, sun, love, hour, selection);
         leaving::leave_named(told, lines)
     } else {
         NO_SUCH_CHOICE
+    }
+}
+
+// The hour of all phases zero.
+#[no_mangle]
+pub extern "C" fn surfgimlet_start_hour() -> Hour
+    ensures { λ r. ⌜ r ≡ startHour ⌝ }
+{
+    surfgimlet::start_hour()
+}
+
+// The hour of given phases.
+#[no_mangle]
+pub extern "C" fn surfgimlet_set_hour(phases: Phases) -> Hour
+    ensures { λ r. ⌜ r ≡ hourAt phases ⌝ }
+{
+    surfgimlet::set_hour(phases)
+}
+
+// An hour with one phase moved. Refused: 100, left in the lent number, and then the hour is answered that was given.
+#[no_mangle]
+pub extern "C" fn surfgimlet_move_hour(
+    hour: Hour,
+    argument: u32,
+    amount: i32,
+    answer: &mut u32,
+) -> Hour
+    ensures { λ r. ⌜ Leaves (hourGiven hour argument amount) hour (now (answer .exit)) r ⌝ }
+{
+    if crossing::is_argument(argument) {
+        *answer = 0;
+        surfgimlet::move_hour(hour, crossing::argument_of(argument), amount)
+    } else {
+        *answer = NO_SUCH_CHOICE;
+        hour
     }
 }
 

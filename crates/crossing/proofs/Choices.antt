@@ -1,8 +1,8 @@
 -- A number names a case where it is below their number, and is converted to the case it names; one that names none is answered by 100.
 use mathlib.Core.Bool.{true, false, _&&_}
-use mathlib.Core.List.{List, [], _∷_}
+use mathlib.Core.List.{List, [], _∷_, _++_}
 use mathlib.Core.Path.{_≡_, refl, sym, ap, subst, _∙_}
-use Prim.Native.Nat.{ℕ, zero, suc}
+use Prim.Native.Nat.{ℕ, zero, suc, _≤_}
 use native.Mathlib.Omega.{arith}
 use borrow.Author.Tests.{lt-ltb, le-ltb}
 use lib.Dec.{T, ltb, leb·suc-suc}
@@ -19,20 +19,12 @@ below-cases (case ∷ cases) zero = lt-ltb 0 (length (case ∷ cases)) (omega ar
 below-cases (case ∷ cases) (suc number) = leb·suc-suc (suc number) (length cases) ∙ below-cases cases number
 
 -- the last case serves every number past the others
-pub last-of-one : {A : Type 0} (a : A) (number : ℕ) → Converts (chosen (a ∷ []) number) a
+pub last-case : {A : Type 0} (others : List A) (last : A) (number : ℕ) → length others ≤ number → Converts (chosen (others ++ (last ∷ [])) number) last
 unfolding chosen
-last-of-one a zero = refl
-last-of-one a (suc number) = tt
-
-pub last-of-two : {A : Type 0} (a b : A) (number : ℕ) → (number ≡ 0 → ⊥) → Converts (chosen (a ∷ b ∷ []) number) b
-unfolding chosen
-last-of-two a b zero h = absurd (h refl)
-last-of-two a b (suc number) h = last-of-one b number
-
-pub last-of-three : {A : Type 0} (a b c : A) (number : ℕ) → (number ≡ 0 → ⊥) → (number ≡ 1 → ⊥) → Converts (chosen (a ∷ b ∷ c ∷ []) number) c
-unfolding chosen
-last-of-three a b c zero h g = absurd (h refl)
-last-of-three a b c (suc number) h g = last-of-two b c number (λ e. g (ap suc e))
+last-case [] last zero h = refl
+last-case [] last (suc number) h = tt
+last-case (case ∷ cases) last zero h = absurd (omega arith)
+last-case (case ∷ cases) last (suc number) h = last-case cases last number (omega arith)
 
 -- where it names no case it is answered by 100
 abbrev pub Hundred : {A : Type 0} → Told A → Type 0

@@ -3,6 +3,8 @@ use mathlib.Core.List.{List, [], _∷_}
 use Prim.Native.Nat.{ℕ, zero, suc}
 use lib.IntN.{ℤ, pos}
 use lib.ListN.{getD}
+use Rattle.arguments.specs.declared.Argument.{Argument}
+use Rattle.arguments.specs.declared.Argument.the-variants.{Tau, S, H, P, Np, Ps}
 use Rattle.arguments.specs.declared.Multipliers.{Multipliers}
 use Rattle.bodies.specs.declared.Body.{Body}
 use Rattle.bodies.specs.declared.Place.{Place}
@@ -31,6 +33,10 @@ frameOf number = chosen (CentreOfFigure ∷ CentreOfMass ∷ []) number
 
 abbrev pub permanentSystem : ℕ → Told PermanentSystem
 permanentSystem number = chosen (TideFree ∷ Zero ∷ Mean ∷ []) number
+
+-- in the order of a record's phases
+abbrev pub argumentOf : ℕ → Told Argument
+argumentOf number = chosen (Tau ∷ S ∷ H ∷ P ∷ Np ∷ Ps ∷ []) number
 
 -- a body's place, of either kind, has three numbers and the distance
 abbrev pub bodyAt : GivenBody → Place → Body

@@ -1,8 +1,9 @@
 // What crosses from C as numbers: the closed choices, the bodies and a list of multipliers. A choice has a test, whether the number names a case, and a
 // conversion, total so that it can stand behind the test; include/surfgimlet.h has the numbers.
 ghost use mathlib.Core.Path.{_≡_};
-ghost use Rattle.crossing.specs.Choices.{loveModel, frameOf, permanentSystem, bodyOf, unlisted};
+ghost use Rattle.crossing.specs.Choices.{loveModel, frameOf, permanentSystem, argumentOf, bodyOf, unlisted};
 ghost use Rattle.crossing.specs.Inner.{names, Converts};
+use arguments::Argument;
 use arguments::Multipliers;
 use bodies::Body;
 use bodies::Place;
@@ -64,6 +65,25 @@ pub fn system_of(system: u32) -> PermanentSystem
         0 => PermanentSystem::TideFree,
         1 => PermanentSystem::Zero,
         _ => PermanentSystem::Mean,
+    }
+}
+
+pub fn is_argument(argument: u32) -> bool
+    ensures { λ r. ⌜ r ≡ names (argumentOf argument) ⌝ }
+{
+    argument < 6
+}
+
+pub fn argument_of(argument: u32) -> Argument
+    ensures { λ r. ⌜ Converts (argumentOf argument) r ⌝ }
+{
+    match argument {
+        0 => Argument::Tau,
+        1 => Argument::S,
+        2 => Argument::H,
+        3 => Argument::P,
+        4 => Argument::Np,
+        _ => Argument::Ps,
     }
 }
 

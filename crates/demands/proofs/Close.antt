@@ -17,6 +17,7 @@ use Rattle.own_bound.proofs.Bound.{own-close}
 use Rattle.pole.specs.Pole.{exactC21, exactS21, withinHalfACount}
 use Rattle.pole.proofs.Laws.{half-a-count}
 use Rattle.places.specs.Places.{indexOf}
+use Rattle.hour.specs.Hour.{HourCall, reached}
 use Rattle.ocean_bound.specs.Exact.{atMostNineCounts}
 use Rattle.ocean_bound.proofs.Bound.{close-to-exact}
 use Rattle.solid.specs.Solid.{countsOf}
@@ -50,11 +51,12 @@ lines-near phases love selection S21 = step-two-close phases love selection .s21
 lines-near phases love selection C22 = step-two-close phases love selection .c22
 lines-near phases love selection S22 = step-two-close phases love selection .s22
 
-pub solid-tide : (n : ℕ) (c s : List ℤ) (moon sun : Body) (love : LoveModel) (phases : Phases) (selection : ℕ) → solidTideRefusal n c s moon sun love selection ≡ 0 → (k : Coefficient)
-    → lessThanOneCount (gainOf c s (solidTide n c s moon sun love phases selection) k -ℤ ofBodies (countsOf (bodyCorrections moon sun love)) k) (lineSum phases love selection k)
-solid-tide n c s moon sun love phases selection passed k =
+pub solid-tide : (n : ℕ) (c s : List ℤ) (moon sun : Body) (love : LoveModel) (calls : List HourCall) (selection : ℕ) → solidTideRefusal n c s moon sun love selection ≡ 0 → (k : Coefficient)
+    → lessThanOneCount (gainOf c s (solidTide n c s moon sun love (reached calls) selection) k -ℤ ofBodies (countsOf (bodyCorrections moon sun love)) k) (lineSum (reached calls .phases) love selection k)
+solid-tide n c s moon sun love calls selection passed k =
+    let phases = reached calls .phases in
     by-part lessThanOneCount (entryOf c s k) _ (ofBodies (countsOf (bodyCorrections moon sun love)) k) (ofLines (corrections phases love selection) k) (lineSum phases love selection k)
-    (solid-entries n c s moon sun love phases selection passed .degree-two k) (lines-near phases love selection k)
+    (solid-entries n c s moon sun love calls selection passed .degree-two k) (lines-near phases love selection k)
 
 module _ (n : ℕ) (c s : List ℤ) (lines : List OwnLine) (phases : Phases) (passed : ownLinesRefusal n c s lines ≡ 0) where
   own-near : (k : Coefficient) → withinThreeCounts (ofLines (ownCorrections phases lines) k) (ownSum phases lines k)

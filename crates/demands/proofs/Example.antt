@@ -24,11 +24,13 @@ use Rattle.profiles.specs.Profiles.{allLines}
 use Rattle.profiles.proofs.Laws.{profiles}
 use Rattle.selection.specs.Selection.{selectionRefusal, names, selected, selectionOf}
 use Rattle.solid.specs.Solid.{plus, lineCounts, withLines, solidCounts}
+use Rattle.hour.specs.Hour.{hourAt}
 use Rattle.step_two.specs.StepTwo.{corrections}
+use Rattle.step_two.proofs.Kept.{set-corrections}
 use Rattle.wave.specs.Wave.{sin, cos, further, eighths, signed, part, folded, eighth-sine, eighth-cosine, steps, step, square, angle}
 use Rattle.whole.specs.Nearest.{nearest}
 use Rattle.whole.specs.Sum.{sumTo, allTo}
-use Rattle.surfgimlet.specs.Calls.{solidTideRefusal, solidTide, placesC, placesS, fiveCorrected, ownLinesRefusal, ownLines, poleTideRefusal, poleTide}
+use Rattle.surfgimlet.specs.Calls.{solidTideRefusal, solidBy, solidTide, placesC, placesS, fiveCorrected, ownLinesRefusal, ownLines, poleTideRefusal, poleTide}
 use Rattle.demands.specs.InTurn.{stepOneCall, stepTwoCall}
 
 abbrev zeros : List ℤ
@@ -107,7 +109,7 @@ step-two-on-a-day Elastic = refl
 step-two-on-a-day Anelastic = refl
 
 -- the solid tide of both bodies and of all lines at that hour: the second program's counts
-pub solid-tide-on-a-field : solidTide 4 zeros zeros moon sun Anelastic day allLines ≡
+pub solid-tide-on-a-field : solidTide 4 zeros zeros moon sun Anelastic (hourAt day) allLines ≡
     record {
       number = 0;
       c =
@@ -121,15 +123,15 @@ pub solid-tide-on-a-field : solidTide 4 zeros zeros moon sun Anelastic day allLi
           ∷ pos 0 ∷ negℤ (pos 5061) ∷ pos 13217 ∷ pos 22539
           ∷ pos 0 ∷ pos 1896 ∷ negℤ (pos 5790) ∷ pos 0 ∷ pos 0 ∷ [];
     }
-unfolding solidTide solidTideRefusal solidCounts withLines lineCounts plus selectionRefusal firstOf unlessRefused fieldRefusal shapedBy size everyInRange places place addedAt added corrected
-solid-tide-on-a-field = rw (moon-and-sun Anelastic, step-two-on-a-day Anelastic, profiles .all-accepted)
+unfolding solidTide solidBy solidTideRefusal solidCounts withLines lineCounts plus selectionRefusal firstOf unlessRefused fieldRefusal shapedBy size everyInRange places place addedAt added corrected
+solid-tide-on-a-field = rw (moon-and-sun Anelastic, set-corrections day Anelastic allLines, step-two-on-a-day Anelastic, profiles .all-accepted)
 
 -- the range is tested once: where step one leaves C21 outside it, the one call is accepted, and of two calls the second was not
 abbrev at-the-end : List ℤ
 at-the-end = pos 0 ∷ pos 0 ∷ pos 0 ∷ pos 0 ∷ pos (2 ^ 60) ∷ pos 0 ∷ pos 0 ∷ pos 0 ∷ pos 0 ∷ pos 0 ∷ pos 0 ∷ pos 0 ∷ pos 0 ∷ pos 0 ∷ pos 0 ∷ []
 
 pub range-tested-once :
-    (solidTide 4 at-the-end zeros moon sun Anelastic day allLines .number ≡ 0)
+    (solidTide 4 at-the-end zeros moon sun Anelastic (hourAt day) allLines .number ≡ 0)
     × (let one = stepOneCall 4 at-the-end zeros moon sun Anelastic in (one .number ≡ 0) × (stepTwoCall 4 (one .c) (one .s) day Anelastic allLines .number ≡ 2))
-unfolding stepOneCall stepTwoCall fiveCorrected solidTide solidTideRefusal selectionRefusal firstOf unlessRefused fieldRefusal shapedBy size everyInRange places place addedAt added corrected
+unfolding stepOneCall stepTwoCall fiveCorrected solidTide solidBy solidTideRefusal selectionRefusal firstOf unlessRefused fieldRefusal shapedBy size everyInRange places place addedAt added corrected
 range-tested-once = rw (moon-and-sun Anelastic, profiles .all-accepted) (refl, (refl, refl))

@@ -23,9 +23,9 @@ use Rattle.solid.specs.Solid.{plus, lineCounts, withLines, countsOf, solidCount
 use Rattle.solid.proofs.Plus.{plus-at}
 use Rattle.step_one.specs.StepOne.{Counts, places, corrections as bodyCorrections}
 use Rattle.step_two.specs.StepTwo.{corrections as lineCorrections}
-use Rattle.surfgimlet.specs.Calls.{placesC, placesS, fiveCorrected, solidTideRefusal, solidTide}
+use Rattle.surfgimlet.specs.Calls.{placesC, placesS, fiveCorrected, solidTideRefusal, solidBy}
 use Rattle.demands.specs.Demands.{at}
-use Rattle.demands.specs.InTurn.{stepOneCall, stepTwoCall}
+use Rattle.demands.specs.InTurn.{stepOneCall, stepTwoCall, solidTideAt}
 use Rattle.demands.proofs.Five.{c-entry, s-entry, c-other, s-other}
 use Rattle.demands.proofs.Solid.{outside, at-ten, by-place, has-room}
 
@@ -124,9 +124,9 @@ module _ (n : ℕ) (c s : List ℤ) (moon sun : Body) (love : LoveModel) (phases
     unfolding stepTwoCall fiveCorrected unlessRefused
     two-is = rw (first-passed (fieldRefusal n (one .c) (one .s)) (selectionRefusal selection) (two-none .0), two-none .1) refl
 
-    once-is : solidTide n c s moon sun love phases selection
+    once-is : solidTideAt n c s moon sun love phases selection
         ≡ record { number = 0; c = addedAt places (plus (counts .c) (forC lines)) c; s = addedAt places (plus (counts .s) (pos 0 ∷ forS lines)) s }
-    unfolding solidTide unlessRefused solidCounts withLines lineCounts
+    unfolding solidTideAt solidBy unlessRefused solidCounts withLines lineCounts
     once-is = rw passes refl
 
     in-c : addedAt places (plus (counts .c) (forC lines)) c ≡ addedAt placesC (forC lines) (one .c)
@@ -135,5 +135,5 @@ module _ (n : ℕ) (c s : List ℤ) (moon sun : Body) (love : LoveModel) (phases
     in-s : addedAt places (plus (counts .s) (pos 0 ∷ forS lines)) s ≡ addedAt placesS (forS lines) (one .s)
     in-s = s-at-once (counts .s) s lines (has-room n c s (one-none .0) .1) ∙ ap (λ (o : Outcome). addedAt placesS (forS lines) (o .s)) (sym one-is)
 
-    pub in-turn : solidTide n c s moon sun love phases selection ≡ two
+    pub in-turn : solidTideAt n c s moon sun love phases selection ≡ two
     in-turn = once-is ∙ (λ i. record { number = 0; c = in-c i; s = in-s i }) ∙ sym two-is

@@ -1,3 +1,4 @@
+pub mod AsBefore
 pub mod Five
 pub mod Solid
 pub mod InTurn

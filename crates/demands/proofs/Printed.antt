@@ -20,7 +20,8 @@ use Rattle.selection.specs.Selection.{selected}
 use Rattle.step_two.specs.StepTwo.{printedSum, selectedSum, corrections}
 use Rattle.surfgimlet.specs.Calls.{fiveCorrected, ownLinesRefusal, ownLines}
 use Rattle.wave.specs.Wave.{sin, cos}
-use Rattle.whole.proofs.Listed.{listed, agree}
+use Rattle.whole.specs.Listed.{listed}
+use Rattle.whole.proofs.Listed.{agree}
 use Rattle.whole.proofs.Sums.{sum-same}
 use Rattle.whole.specs.Sum.{allTo}
 

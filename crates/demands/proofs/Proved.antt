@@ -7,7 +7,7 @@ use Rattle.field.specs.Field.{place}
 use Rattle.permanent.proofs.RoundTrip.{there-and-back}
 use Rattle.refusals.specs.Outcome.{unlessRefused}
 use Rattle.refusals.proofs.Outcomes.{outcome-number, refused-untouched}
-use Rattle.surfgimlet.specs.Calls.{solidTide, fiveCorrected, ownLines, poleTide, oceanTide}
+use Rattle.surfgimlet.specs.Calls.{solidBy, solidTide, fiveCorrected, ownLines, poleTide, oceanTide}
 use Rattle.demands.specs.Demands.{Refuses, First, Second, Third, Demands}
 use Rattle.demands.proofs.Solid as solid
 use Rattle.demands.proofs.Five as five
@@ -23,9 +23,9 @@ refuses number c s c′ s′ = record {
 }
 
 pub first : First
-unfolding solidTide fiveCorrected ownLines poleTide oceanTide
+unfolding solidTide solidBy fiveCorrected ownLines poleTide oceanTide
 first = record {
-  solid-tide = λ n c s moon sun love phases selection. refuses _ c s _ _;
+  solid-tide = λ n c s moon sun love hour selection. refuses _ c s _ _;
   own-lines = λ n c s lines phases. refuses _ c s _ _;
   pole-tide = λ n c s xp yp love. refuses _ c s _ _;
   ocean-tide = λ n c s sheet phases frame. refuses _ c s _ _;
@@ -35,6 +35,7 @@ pub second : Second
 unfolding place
 second = record {
   solid-tide = solid.solid-tide;
+  any-hour = solid.any-hour;
   own-lines = five.own-lines;
   pole-tide = pole.pole-tide;
   ocean-tide = λ n c s sheet phases frame e. record {

@@ -10,8 +10,8 @@ use native.Mathlib.Nat.{mul-le-mul}
 use native.Mathlib.Omega.{arith}
 use lib.IntN.{ℤ, pos, natAbs, _+ℤ_, +ℤ-idr}
 use lib.ListN.{getD, length}
-use Rattle.arguments.specs.declared.Phases.{Phases}
 use Rattle.bands.specs.declared.Corrections.{Corrections}
+use Rattle.bands.specs.Inner.{Small as SmallCorrections}
 use Rattle.bands.specs.Bands.{Coefficient, C20, C21, S21, C22, S22, forC, forS}
 use Rattle.choices.specs.declared.LoveModel.{LoveModel}
 use Rattle.refusals.specs.Told.{Told}
@@ -28,14 +28,18 @@ use Rattle.step_one.specs.StepOne.{places, Counts, corrections as bodyCorrectio
 use Rattle.step_one.proofs.Places.{place-at}
 use Rattle.step_one.specs.Inner.{Small}
 use Rattle.step_one.proofs.Counted.{WhereAccepted, SmallCounts, accepted-small, NoOrderZero, no-order-zero}
-use Rattle.step_two.specs.StepTwo.{corrections as lineCorrections}
-use Rattle.step_two.proofs.Sizes.{corrections-small}
-use Rattle.step_two.proofs.Unused.{no-lines}
+use Rattle.hour.specs.declared.Hour.{Hour}
+use Rattle.hour.specs.Hour.{HourCall, reached}
+use Rattle.hour.proofs.Reached.{reached-fresh}
+use Rattle.step_two.specs.StepTwo.{corrections as lineCorrections, keptCorrections}
+use Rattle.step_two.proofs.Kept.{fresh-corrections}
+use Rattle.step_two.proofs.Sizes.{In32Bits, kept-small}
+use Rattle.step_two.proofs.Unnamed.{no-lines}
 use Rattle.solid.specs.Solid.{lineCounts, withLines, countsOf, solidCounts}
 use Rattle.solid.proofs.Plus.{plus-at}
 use Rattle.solid.specs.Inner.{Room}
 use Rattle.solid.proofs.Sizes.{with-lines-c, with-lines-s, still-no-order-zero}
-use Rattle.surfgimlet.specs.Calls.{solidTideRefusal, solidTide}
+use Rattle.surfgimlet.specs.Calls.{solidTideRefusal, solidBy, solidTide}
 use Rattle.whole.proofs.Parts.{abs-sum}
 use Rattle.demands.specs.Demands.{at, entryOf, ofBodies, ofLines, SolidEntries}
 use Rattle.demands.proofs.Five.{read}
@@ -100,25 +104,22 @@ has-room n c s e =
     (omega (arith, a .c-size), omega (arith, a .s-size))
 
 -- where nothing is refused
-module _ (n : ℕ) (c s : List ℤ) (moon sun : Body) (love : LoveModel) (phases : Phases) (selection : ℕ) (passed : solidTideRefusal n c s moon sun love selection ≡ 0) where
+module _ (n : ℕ) (c s : List ℤ) (moon sun : Body) (love : LoveModel) (selection : ℕ) (two : Corrections) (passed : solidTideRefusal n c s moon sun love selection ≡ 0) where
   abbrev one : Counts
   one = countsOf (bodyCorrections moon sun love)
 
-  abbrev two : Corrections
-  two = lineCorrections phases love selection
-
   abbrev counts : Counts
-  counts = solidCounts moon sun love phases selection
+  counts = solidCounts moon sun love two
 
   abbrev o : Outcome
-  o = solidTide n c s moon sun love phases selection
+  o = solidBy n c s moon sun love selection two
 
   c-is : o .c ≡ addedAt places (counts .c) c
-  unfolding solidTide unlessRefused
+  unfolding solidBy unlessRefused
   c-is = rw passed
 
   s-is : o .s ≡ addedAt places (counts .s) s
-  unfolding solidTide unlessRefused
+  unfolding solidBy unlessRefused
   s-is = rw passed
 
   room : (13 ≤ length c) × (13 ≤ length s)
@@ -158,9 +159,9 @@ module _ (n : ℕ) (c s : List ℤ) (moon sun : Body) (love : LoveModel) (phases
   unfolding solidCounts
   no-zonal = still-no-order-zero one two (zeros (bodyCorrections moon sun love) (no-order-zero moon sun love))
 
-  pub solid-tide : SolidEntries c s o one two
+  pub solid-entries : SolidEntries c s o one two
   unfolding place
-  solid-tide = record {
+  solid-entries = record {
     degree-two = five;
     beyond = alone;
     elsewhere = λ k h. (read c-is k ∙ outside (counts .c) c k h, read s-is k ∙ outside (counts .s) s k h);
@@ -173,10 +174,8 @@ module _ (n : ℕ) (c s : List ℤ) (moon sun : Body) (love : LoveModel) (phases
   small-bodies (accepted k) e = accepted-small moon sun love k e
   small-bodies (refused number) e = record { in-c = record { size = λ k. omega arith }; in-s = record { size = λ k. omega arith } }
 
-  both-small : Room one two
-  both-small =
-      let small = small-bodies (bodyCorrections moon sun love) refl in
-      record { in-c = small .in-c; in-s = small .in-s; lines = corrections-small phases love selection }
+  both-small : SmallCorrections two → Room one two
+  both-small lines = let small = small-bodies (bodyCorrections moon sun love) refl in record { in-c = small .in-c; in-s = small .in-s; lines = lines }
 
   entry-small : (by l : List ℤ) → Small 54 by → everyInRange l ≡ true → 13 ≤ length l → (k : ℕ) → natAbs (getD (addedAt places by l) k (pos 0)) ≤ 2 ^ 60 + 2 ^ 54
   entry-small by l small range long =
@@ -184,16 +183,38 @@ module _ (n : ℕ) (c s : List ℤ) (moon sun : Body) (love : LoveModel) (phases
       (λ j b. rw (at-ten by l long j b) (omega (arith, abs-sum (getD l (3 + j) (pos 0)) (getD by j (pos 0)), entry-in-range l range (3 + j), small .size j)))
       (λ k h. rw (outside by l k h) (omega (arith, entry-in-range l range k)))
 
-  pub no-sum-leaves : (k : ℕ) → (natAbs (at (o .c) k) ≤ 2 ^ 60 + 2 ^ 54) × (natAbs (at (o .s) k) ≤ 2 ^ 60 + 2 ^ 54)
+  no-sum-leaves-by : SmallCorrections two → (k : ℕ) → (natAbs (at (o .c) k) ≤ 2 ^ 60 + 2 ^ 54) × (natAbs (at (o .s) k) ≤ 2 ^ 60 + 2 ^ 54)
   unfolding solidTideRefusal solidCounts
-  no-sum-leaves k =
-      let a = accepted-field n c s (first-none (fieldRefusal n c s) _ passed .0) in (
-        rw c-is (entry-small (counts .c) c (with-lines-c one two both-small) (a .c-range) (room .0) k),
-        rw s-is (entry-small (counts .s) s (with-lines-s one two both-small) (a .s-range) (room .1) k),
+  no-sum-leaves-by lines k =
+      let a = accepted-field n c s (first-none (fieldRefusal n c s) _ passed .0) in
+      let small = both-small lines in (
+        rw c-is (entry-small (counts .c) c (with-lines-c one two small) (a .c-range) (room .0) k),
+        rw s-is (entry-small (counts .s) s (with-lines-s one two small) (a .s-range) (room .1) k),
       )
 
+-- of any hour record
+module _ (n : ℕ) (c s : List ℤ) (moon sun : Body) (love : LoveModel) (hour : Hour) (selection : ℕ) (passed : solidTideRefusal n c s moon sun love selection ≡ 0) where
+  abbrev after : Outcome
+  after = solidTide n c s moon sun love hour selection
+
+  pub any-hour : SolidEntries c s after (countsOf (bodyCorrections moon sun love)) (keptCorrections hour love selection)
+  unfolding solidTide
+  any-hour = solid-entries n c s moon sun love selection (keptCorrections hour love selection) passed
+
+  -- nothing wraps, for any signed 32-bit values
+  pub no-sum-leaves : In32Bits hour → (k : ℕ) → (natAbs (at (after .c) k) ≤ 2 ^ 60 + 2 ^ 54) × (natAbs (at (after .s) k) ≤ 2 ^ 60 + 2 ^ 54)
+  unfolding solidTide
+  no-sum-leaves held k = no-sum-leaves-by n c s moon sun love selection (keptCorrections hour love selection) passed (kept-small hour held love selection) k
+
 -- no line named: step one alone
-pub none-named : (n : ℕ) (c s : List ℤ) (moon sun : Body) (love : LoveModel) (phases : Phases) → solidTideRefusal n c s moon sun love 0 ≡ 0
-    → SolidEntries c s (solidTide n c s moon sun love phases 0) (countsOf (bodyCorrections moon sun love)) (record { c20 = pos 0; c21 = pos 0; s21 = pos 0; c22 = pos 0; s22 = pos 0 })
-none-named n c s moon sun love phases passed =
-    subst (SolidEntries c s (solidTide n c s moon sun love phases 0) (countsOf (bodyCorrections moon sun love))) (no-lines phases love) (solid-tide n c s moon sun love phases 0 passed)
+pub none-named : (n : ℕ) (c s : List ℤ) (moon sun : Body) (love : LoveModel) (hour : Hour) → solidTideRefusal n c s moon sun love 0 ≡ 0
+    → SolidEntries c s (solidTide n c s moon sun love hour 0) (countsOf (bodyCorrections moon sun love)) (record { c20 = pos 0; c21 = pos 0; s21 = pos 0; c22 = pos 0; s22 = pos 0 })
+none-named n c s moon sun love hour passed =
+    subst (SolidEntries c s (solidTide n c s moon sun love hour 0) (countsOf (bodyCorrections moon sun love))) (no-lines hour love) (any-hour n c s moon sun love hour 0 passed)
+
+-- of those reached: what step two gives from their phases
+pub solid-tide : (n : ℕ) (c s : List ℤ) (moon sun : Body) (love : LoveModel) (calls : List HourCall) (selection : ℕ) → solidTideRefusal n c s moon sun love selection ≡ 0
+    → SolidEntries c s (solidTide n c s moon sun love (reached calls) selection) (countsOf (bodyCorrections moon sun love)) (lineCorrections (reached calls .phases) love selection)
+solid-tide n c s moon sun love calls selection passed =
+    subst (SolidEntries c s (solidTide n c s moon sun love (reached calls) selection) (countsOf (bodyCorrections moon sun love)))
+    (fresh-corrections (reached calls) (reached-fresh calls) love selection) (any-hour n c s moon sun love (reached calls) selection passed)

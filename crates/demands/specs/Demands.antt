@@ -16,6 +16,8 @@ use Rattle.choices.specs.declared.LoveModel.{LoveModel}
 use Rattle.choices.specs.declared.PermanentSystem.{PermanentSystem}
 use Rattle.doodson.specs.Doodson.{readDoodson, writeDoodson}
 use Rattle.field.specs.Field.{place}
+use Rattle.hour.specs.declared.Hour.{Hour}
+use Rattle.hour.specs.Hour.{HourCall, reached}
 use Rattle.ocean.specs.Ocean.{dC, dS}
 use Rattle.ocean_bound.specs.Exact.{atMostNineCounts, exactSum as oceanSum}
 use Rattle.own.specs.declared.OwnLine.{OwnLine}
@@ -29,7 +31,7 @@ use Rattle.refusals.specs.Told.Told.{accepted}
 use Rattle.sheet.specs.Sheet.{placeCount, cCos, sCos, cSin, sSin}
 use Rattle.solid.specs.Solid.{countsOf}
 use Rattle.step_one.specs.StepOne.{Counts, places, corrections as bodyCorrections}
-use Rattle.step_two.specs.StepTwo.{corrections as lineCorrections}
+use Rattle.step_two.specs.StepTwo.{corrections as lineCorrections, keptCorrections}
 use Rattle.step_two_bound.specs.Exact.{lessThanOneCount, exactSum as lineSum}
 use Rattle.surfgimlet.specs.Calls.{solidTideRefusal, solidTide, ownLinesRefusal, ownLines, poleTideRefusal, poleTide, oceanRefusal, oceanTide}
 
@@ -48,8 +50,8 @@ pub record Refuses (o : Outcome) (number : ℕ) (c s : List ℤ) : Type 0 where
   pub kept-s : (number ≡ 0 → ⊥) → o .s ≡ s
 
 pub record First : Type 0 where
-  pub solid-tide : (n : ℕ) (c s : List ℤ) (moon sun : Body) (love : LoveModel) (phases : Phases) (selection : ℕ)
-      → Refuses (solidTide n c s moon sun love phases selection) (solidTideRefusal n c s moon sun love selection) c s
+  pub solid-tide : (n : ℕ) (c s : List ℤ) (moon sun : Body) (love : LoveModel) (hour : Hour) (selection : ℕ)
+      → Refuses (solidTide n c s moon sun love hour selection) (solidTideRefusal n c s moon sun love selection) c s
   pub own-lines : (n : ℕ) (c s : List ℤ) (lines : List OwnLine) (phases : Phases) → Refuses (ownLines n c s lines phases) (ownLinesRefusal n c s lines) c s
   pub pole-tide : (n : ℕ) (c s : List ℤ) (xp yp : ℤ) (love : LoveModel) → Refuses (poleTide n c s xp yp love) (poleTideRefusal n c s xp yp) c s
   pub ocean-tide : (n : ℕ) (c s : List ℤ) (sheet : List ℕ) (phases : Phases) (frame : Frame) → Refuses (oceanTide n c s sheet phases frame) (oceanRefusal n c s sheet) c s
@@ -108,8 +110,12 @@ pub record OceanEntries (n : ℕ) (c s : List ℤ) (sheet : List ℕ) (phases : 
   pub order-zero : (d : ℕ) → d ≤ n → at (oceanTide n c s sheet phases frame .s) (place d 0) ≡ at s (place d 0)
 
 pub record Second : Type 0 where
-  pub solid-tide : (n : ℕ) (c s : List ℤ) (moon sun : Body) (love : LoveModel) (phases : Phases) (selection : ℕ) → solidTideRefusal n c s moon sun love selection ≡ 0
-      → SolidEntries c s (solidTide n c s moon sun love phases selection) (countsOf (bodyCorrections moon sun love)) (lineCorrections phases love selection)
+  -- T-08: "The second and third demands are then about records reached in this way", after any calls from the start
+  pub solid-tide : (n : ℕ) (c s : List ℤ) (moon sun : Body) (love : LoveModel) (calls : List HourCall) (selection : ℕ) → solidTideRefusal n c s moon sun love selection ≡ 0
+      → SolidEntries c s (solidTide n c s moon sun love (reached calls) selection) (countsOf (bodyCorrections moon sun love)) (lineCorrections (reached calls .phases) love selection)
+  -- T-08: "for any other record the result is the same sum over the values it holds"
+  pub any-hour : (n : ℕ) (c s : List ℤ) (moon sun : Body) (love : LoveModel) (hour : Hour) (selection : ℕ) → solidTideRefusal n c s moon sun love selection ≡ 0
+      → SolidEntries c s (solidTide n c s moon sun love hour selection) (countsOf (bodyCorrections moon sun love)) (keptCorrections hour love selection)
   pub own-lines : (n : ℕ) (c s : List ℤ) (lines : List OwnLine) (phases : Phases) → ownLinesRefusal n c s lines ≡ 0
       → FiveEntries c s (ownLines n c s lines phases) (ownCorrections phases lines)
   pub pole-tide : (n : ℕ) (c s : List ℤ) (xp yp : ℤ) (love : LoveModel) → poleTideRefusal n c s xp yp ≡ 0 → PoleEntries n c s xp yp love
@@ -136,8 +142,8 @@ pub record PoleClose (n : ℕ) (c s : List ℤ) (xp yp : ℤ) (love : LoveModel)
 pub record Third : Type 0 where
   -- T-06: "the third demand then reads the part of the sum that step two gives": what an entry gained, less step one's correction.
   -- T-04: "The less-than-one-count bound is to hold for every selection", from the exact sum of the lines named
-  pub solid-tide : (n : ℕ) (c s : List ℤ) (moon sun : Body) (love : LoveModel) (phases : Phases) (selection : ℕ) → solidTideRefusal n c s moon sun love selection ≡ 0 → (k : Coefficient)
-      → lessThanOneCount (gainOf c s (solidTide n c s moon sun love phases selection) k -ℤ ofBodies (countsOf (bodyCorrections moon sun love)) k) (lineSum phases love selection k)
+  pub solid-tide : (n : ℕ) (c s : List ℤ) (moon sun : Body) (love : LoveModel) (calls : List HourCall) (selection : ℕ) → solidTideRefusal n c s moon sun love selection ≡ 0 → (k : Coefficient)
+      → lessThanOneCount (gainOf c s (solidTide n c s moon sun love (reached calls) selection) k -ℤ ofBodies (countsOf (bodyCorrections moon sun love)) k) (lineSum (reached calls .phases) love selection k)
   -- T-01: "Each resulting correction must lie within three counts of its exact sum"
   pub own-lines : (n : ℕ) (c s : List ℤ) (lines : List OwnLine) (phases : Phases) → ownLinesRefusal n c s lines ≡ 0 → (k : Coefficient)
       → withinThreeCounts (gainOf c s (ownLines n c s lines phases) k) (ownSum phases lines k)

@@ -1,4 +1,4 @@
--- The two calls that the solid tide stands for, as they were: step one's, and step two's, which an operator made on the field that the first left.
+-- The calls as they were: step one's, and step two's, which an operator made on the field that the first left; and the solid tide from bare phases.
 use mathlib.Core.List.{List}
 use Prim.Native.Nat.{ℕ}
 use lib.IntN.{ℤ}
@@ -13,7 +13,7 @@ use Rattle.selection.specs.Selection.{selectionRefusal}
 use Rattle.solid.specs.Solid.{countsOf}
 use Rattle.step_one.specs.StepOne.{places, corrections as bodyCorrections}
 use Rattle.step_two.specs.StepTwo.{corrections as lineCorrections}
-use Rattle.surfgimlet.specs.Calls.{fiveCorrected}
+use Rattle.surfgimlet.specs.Calls.{fiveCorrected, solidBy}
 
 -- refusals 1, 2, then the Moon's 3, 4, 5, the Sun's, and 6
 unfoldable pub stepOneCall : ℕ → List ℤ → List ℤ → Body → Body → LoveModel → Outcome
@@ -24,3 +24,7 @@ stepOneCall n c s moon sun love =
 -- refusals 1, 2, then 14
 unfoldable pub stepTwoCall : ℕ → List ℤ → List ℤ → Phases → LoveModel → ℕ → Outcome
 stepTwoCall n c s phases love selection = fiveCorrected (firstOf (fieldRefusal n c s) (selectionRefusal selection)) c s (lineCorrections phases love selection)
+
+-- step one and step two as one, the lines' waves worked out from the phases
+unfoldable pub solidTideAt : ℕ → List ℤ → List ℤ → Body → Body → LoveModel → Phases → ℕ → Outcome
+solidTideAt n c s moon sun love phases selection = solidBy n c s moon sun love selection (lineCorrections phases love selection)

@@ -1,31 +1,27 @@
--- What is kept of a call's phases.
-use mathlib.Core.Bool.{Bool, true, cond, _&&_, _||_}
+-- What the inner functions say of the lines that are worked out afresh.
+use mathlib.Core.Bool.{Bool, true, cond}
 use mathlib.Core.List.{List}
-use mathlib.Core.Path.{_≡_}
-use Prim.Native.Nat.{ℕ, _<_}
-use lib.Dec.{ltb, leb}
-use lib.IntN.{ℤ, pos}
-use lib.ListN.{getD}
+use Prim.Native.Nat.{ℕ}
+use lib.IntN.{ℤ}
+use Rattle.arguments.specs.declared.Multipliers.{Multipliers}
 use Rattle.arguments.specs.declared.Phases.{Phases}
-use Rattle.choices.specs.declared.LoveModel.{LoveModel}
-use Rattle.choices.specs.declared.LoveModel.the-variants.{Elastic, Anelastic}
-use Rattle.lines.specs.Lines.{linePhase}
-use Rattle.selection.specs.Selection.{names}
+use Rattle.lines.specs.Lines.{multipliersAt, linePhase}
 use Rattle.wave.specs.Wave.{sin, cos}
+use Rattle.whole.specs.Listed.{listed}
+use Rattle.hour.specs.declared.Renewed.{Renewed}
+use Rattle.hour.specs.declared.Renewed.the-variants.{All, Having}
+use Rattle.hour.specs.Hour.{kept, hasArgument}
 
--- the elastic model has no amplitudes for the long-period lines
-unfoldable pub isInModel : LoveModel → ℕ → Bool
-isInModel Elastic i = ltb i 26 || leb 47 i
-isInModel Anelastic i = true
+abbrev pub isRenewed : Renewed → Multipliers → Bool
+isRenewed All m = true
+isRenewed (Having argument) m = hasArgument argument m
 
--- a line's wave is worked out where the model has amplitudes for it and the selection names it
-unfoldable pub isUsed : LoveModel → ℕ → ℕ → Bool
-isUsed love selection i = isInModel love i && names selection i
+-- of line i the value of f where it is renewed, and what was held of it elsewhere
+abbrev pub renewedAt : Renewed → (ℕ → ℤ) → List ℤ → ℕ → ℤ
+renewedAt which f held i = cond (isRenewed which (multipliersAt i)) (f i) (kept held i)
 
-abbrev pub kept : List ℤ → ℕ → ℤ
-kept l i = getD l i (pos 0)
+abbrev pub renewedCosines : Renewed → Phases → List ℤ → List ℤ
+renewedCosines which phases held = listed (renewedAt which (λ i. cos (linePhase phases i)) held) 49
 
--- lists that hold the cosines and the sines of the lines used
-pub record Waved (phases : Phases) (love : LoveModel) (selection : ℕ) (c s : List ℤ) : Type 0 where
-  pub cosines : (i : ℕ) → i < 49 → kept c i ≡ cond (isUsed love selection i) (cos (linePhase phases i)) (pos 0)
-  pub sines : (i : ℕ) → i < 49 → kept s i ≡ cond (isUsed love selection i) (sin (linePhase phases i)) (pos 0)
+abbrev pub renewedSines : Renewed → Phases → List ℤ → List ℤ
+renewedSines which phases held = listed (renewedAt which (λ i. sin (linePhase phases i)) held) 49

@@ -1,1 +1,2 @@
+pub mod Hour
 pub mod Inner

@@ -1,58 +1,95 @@
-// The waves of the printed lines at six phases, worked out once.
+// The hour record (document 02, T-08): six phases, and the waves of the printed lines that were worked out from them.
 ghost use mathlib.Core.Path.{_≡_};
-ghost use mathlib.Core.Bool.{cond};
-ghost use Prim.Native.Nat.{_<_};
-ghost use lib.IntN.{pos};
 ghost use lib.ListN.{length};
-ghost use Rattle.arguments.specs.Phase.{phase};
-ghost use Rattle.lines.specs.Inner.{multipliersBy};
-ghost use Rattle.wave.specs.Wave.{sin, cos};
-ghost use Rattle.hour.specs.Inner.{isUsed, Waved};
+ghost use Rattle.hour.specs.Hour.{hourAt, startHour, movedHour};
+ghost use Rattle.hour.specs.Inner.{isRenewed, renewedCosines, renewedSines};
+use arguments::Argument;
+use arguments::Multipliers;
 use arguments::Phases;
-use choices::LoveModel;
-use wave::Wave;
 
-// Whether a Love model has amplitudes for a line, and a selection names it.
-fn is_used(love: LoveModel, selection: u64, i: usize) -> bool
-    requires { ⌜ i < 49 ⌝ }
-    ensures { λ r. ⌜ r ≡ isUsed love selection i ⌝ }
+// The cosines and the sines are in units of 2^-30, in the order of the printed lines; C passes the record as it stands.
+#[repr(C)]
+pub struct Hour {
+    pub phases: Phases,
+    pub cosines: [i32; 49],
+    pub sines: [i32; 49],
+}
+
+// The lines whose waves are worked out afresh.
+enum Renewed {
+    All,
+    Having(Argument),
+}
+
+// Whether they are among them that have these multipliers.
+fn is_renewed(renewed: Renewed, m: Multipliers) -> bool
+    ensures { λ r. ⌜ r ≡ isRenewed renewed m ⌝ }
 {
-    let named = selection::names(selection, i);
-    match love {
-        LoveModel::Elastic => ((i < 26) | (47 <= i)) & named,
-        LoveModel::Anelastic => named,
+    match renewed {
+        Renewed::All => true,
+        Renewed::Having(argument) => arguments::multiplier_of(m, argument) != 0,
     }
 }
 
-// The wave of the line with a number's digits, or zeros where it is not used.
-fn wave_by(digits: u32, phases: Phases, used: bool) -> Wave
-    ensures { λ r. ⌜ (r .cosine ≡ cond used (cos (phase (multipliersBy digits) phases)) (pos 0)) × (r .sine ≡ cond used (sin (phase (multipliersBy digits) phases)) (pos 0)) ⌝ }
-{
-    if used {
-        wave::wave_of(arguments::phase_of(lines::multipliers_by(digits), phases))
-    } else {
-        Wave { sine: 0, cosine: 0 }
-    }
-}
-
-// The cosines and the sines of the printed lines, in units of 2^-30; zeros for a line that is not named or that the Love model has no amplitudes for.
-pub fn fill_waves(
-    phases: Phases,
-    love: LoveModel,
-    selection: u64,
-    cosines: &mut [i32; 49],
-    sines: &mut [i32; 49],
-)
+// Works the waves of lines out afresh; the other lines keep what is held of them.
+fn renew_waves(phases: Phases, renewed: Renewed, cosines: &mut [i32; 49], sines: &mut [i32; 49])
     requires { ⌜ (length (now cosines) ≡ 49) × (length (now sines) ≡ 49) ⌝ }
-    ensures { λ _. ⌜ Waved phases love selection (now (cosines .exit)) (now (sines .exit)) ⌝ }
+    ensures { λ _. ⌜ (now (cosines .exit) ≡ renewedCosines renewed phases (now (cosines .entry))) × (now (sines .exit) ≡ renewedSines renewed phases (now (sines .entry))) ⌝ }
 {
     let tables = lines::printed_tables();
     let digits = tables.digits;
     let mut i = 0;
     while i < 49 {
-        let wave = wave_by(digits[i], phases, is_used(love, selection, i));
-        cosines[i] = wave.cosine as i32;
-        sines[i] = wave.sine as i32;
+        let m = lines::multipliers_by(digits[i]);
+        if is_renewed(renewed, m) {
+            let wave = wave::wave_of(arguments::phase_of(m, phases));
+            cosines[i] = wave.cosine as i32;
+            sines[i] = wave.sine as i32;
+        }
         i += 1;
+    }
+}
+
+// The record of given phases.
+pub fn set_to(phases: Phases) -> Hour
+    ensures { λ r. ⌜ r ≡ hourAt phases ⌝ }
+{
+    let mut cosines = [0i32; 49];
+    let mut sines = [0i32; 49];
+    renew_waves(phases, Renewed::All, &mut cosines, &mut sines);
+    Hour {
+        phases,
+        cosines,
+        sines,
+    }
+}
+
+// The record that every other one begins from.
+pub fn start() -> Hour
+    ensures { λ r. ⌜ r ≡ startHour ⌝ }
+{
+    set_to(Phases {
+        tau: 0,
+        s: 0,
+        h: 0,
+        p: 0,
+        np: 0,
+        ps: 0,
+    })
+}
+
+// A record with one phase moved.
+pub fn moved(hour: Hour, argument: Argument, amount: i32) -> Hour
+    ensures { λ r. ⌜ r ≡ movedHour hour argument amount ⌝ }
+{
+    let before = hour.phases;
+    let phases = arguments::moved_phases(before, argument, amount);
+    let mut cosines = hour.cosines;
+    let mut sines = hour.sines;
+    renew_waves(phases, Renewed::Having(argument), &mut cosines, &mut sines);
+    Hour {
+        phases,
+        cosines,
+        sines,
     }
 }

@@ -39,18 +39,19 @@ fn put_models(out: &mut [u8], phases: Phases) -> usize
     ensures { λ r. ⌜ Put (now (out .entry)) 0 (modelsText phases) (now (out .exit)) r ⌝ }
 {
     let lines = profiles::all_lines();
+    let hour = hour::set_to(phases);
     let at = text::put_word(out, 0, b"model C20 C21 S21 C22 S22\n");
     let at = put_model(
         out,
         at,
         b"elastic",
-        step_two::corrections_of(phases, LoveModel::Elastic, lines),
+        step_two::corrections_of(hour, LoveModel::Elastic, lines),
     );
     put_model(
         out,
         at,
         b"anelastic",
-        step_two::corrections_of(phases, LoveModel::Anelastic, lines),
+        step_two::corrections_of(hour, LoveModel::Anelastic, lines),
     )
 }
 

@@ -12,7 +12,8 @@ use lib.ListN.{length, List·getD-eq-default}
 use Rattle.sheet.specs.Accepted.{ownRefusal}
 use Rattle.sheet.specs.Sheet.{lineCount, lineStart, tidesStart, tideCount, rowStart, placesStart, placeCount, placeStart, multiplier, admittance, degree, order, coefficient}
 use Rattle.sheet.proofs.Acceptance.{Accepted, accepted}
-use Rattle.whole.proofs.Listed.{listed, listed-length, at-listed}
+use Rattle.whole.specs.Listed.{listed}
+use Rattle.whole.proofs.Listed.{listed-length, at-listed}
 use Rattle.whole.proofs.Parts.{same, difference, abs-neg}
 use Rattle.words.specs.Words.{byteAt, halfAt, wordAt, twosComplement}
 use Rattle.reversal.specs.Reversal.{Reversed}

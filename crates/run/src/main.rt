@@ -1,6 +1,8 @@
 // Runs the unit's calls on stored cases: a byte for the call, and what the call takes. A line each: the answer's number, 0 where the call is
 // accepted, and what it answers; of a call over a field, then every entry of both lists as they are afterwards.
+use arguments::Argument;
 use arguments::Multipliers;
+use arguments::Phases;
 use bodies::Body;
 use bodies::Place;
 use choices::Frame;
@@ -8,6 +10,7 @@ use choices::LoveModel;
 use choices::PermanentSystem;
 use doodson::Read;
 use doodson::Written;
+use hour::Hour;
 use lines::Sought;
 use permanent::Moved;
 use refusals::Answer;
@@ -106,6 +109,94 @@ fn read_body() -> Body {
     Body { ratio, place }
 }
 
+fn read_argument() -> Argument {
+    match read_u8() {
+        0 => Argument::Tau,
+        1 => Argument::S,
+        2 => Argument::H,
+        3 => Argument::P,
+        4 => Argument::Np,
+        _ => Argument::Ps,
+    }
+}
+
+fn read_values() -> [i32; 49] {
+    let mut values = [0i32; 49];
+    let mut i = 0;
+    while i < 49 {
+        let value = read_i32();
+        values[i] = value;
+        i += 1;
+    }
+    values
+}
+
+// An hour written by hand.
+fn read_written() -> Hour {
+    let phases = replay::read_phases();
+    let cosines = read_values();
+    let sines = read_values();
+    Hour {
+        phases,
+        cosines,
+        sines,
+    }
+}
+
+fn read_moved(hour: Hour) -> Hour {
+    let argument = read_argument();
+    let amount = read_i32();
+    surfgimlet::move_hour(hour, argument, amount)
+}
+
+fn read_step(hour: Hour) -> Hour {
+    match read_u8() {
+        0 => surfgimlet::set_hour(replay::read_phases()),
+        1 => read_moved(hour),
+        _ => read_written(),
+    }
+}
+
+// An hour: how many steps lead to it from the start, and each of them.
+fn read_hour() -> Hour {
+    let mut hour = surfgimlet::start_hour();
+    let steps = read_u32();
+    let mut k = 0;
+    while k < steps {
+        hour = read_step(hour);
+        k += 1;
+    }
+    hour
+}
+
+fn write_phases(phases: Phases) {
+    write_next(phases.tau as i64);
+    write_next(phases.s as i64);
+    write_next(phases.h as i64);
+    write_next(phases.p as i64);
+    write_next(phases.np as i64);
+    write_next(phases.ps as i64);
+}
+
+fn write_values(values: &[i32; 49]) {
+    let mut i = 0;
+    while i < 49 {
+        write_small(values[i]);
+        i += 1;
+    }
+}
+
+fn hour() {
+    let hour = read_hour();
+    let phases = hour.phases;
+    let cosines = hour.cosines;
+    let sines = hour.sines;
+    write_number(0);
+    write_phases(phases);
+    write_values(&cosines);
+    write_values(&sines);
+}
+
 fn multipliers_of() {
     match surfgimlet::multipliers_of(read_u32()) {
         Read::Multipliers(m) => write_multipliers(m),
@@ -156,9 +247,9 @@ fn solid_tide(n: u32, c: &mut [i64], s: &mut [i64]) {
     let love = read_love();
     let moon = read_body();
     let sun = read_body();
-    let phases = replay::read_phases();
+    let hour = read_hour();
     let selection = replay::read_u64();
-    match surfgimlet::solid_tide(n, c, s, moon, sun, love, phases, selection) {
+    match surfgimlet::solid_tide(n, c, s, moon, sun, love, hour, selection) {
         Named::Lines(lines) => {
             write_number(0);
             write_next(lines as i64);
@@ -216,6 +307,7 @@ fn run_case() {
         1 => number_of(),
         2 => find_line(),
         3 => move_c20(),
+        7 => hour(),
         _ => over_field(call),
     }
     replay::end_line();

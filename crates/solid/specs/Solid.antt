@@ -1,8 +1,6 @@
 -- Document 02, T-06, "One call for the solid tide": "The correction is the sum of the two, added once."
 use mathlib.Core.List.{List, [], _∷_}
-use Prim.Native.Nat.{ℕ}
 use lib.IntN.{ℤ, pos, _+ℤ_}
-use Rattle.arguments.specs.declared.Phases.{Phases}
 use Rattle.bands.specs.declared.Corrections.{Corrections}
 use Rattle.bands.specs.Bands.{forC, forS}
 use Rattle.bodies.specs.declared.Body.{Body}
@@ -10,7 +8,6 @@ use Rattle.choices.specs.declared.LoveModel.{LoveModel}
 use Rattle.refusals.specs.Told.{Told}
 use Rattle.refusals.specs.Told.Told.{accepted, refused}
 use Rattle.step_one.specs.StepOne.{Counts, corrections as bodyCorrections}
-use Rattle.step_two.specs.StepTwo.{corrections as lineCorrections}
 
 -- two lists added place by place; what one of them does not reach is the other's alone
 unfoldable pub plus : List ℤ → List ℤ → List ℤ
@@ -31,5 +28,6 @@ abbrev pub countsOf : Told Counts → Counts
 countsOf (accepted counts) = counts
 countsOf (refused number) = record { c = []; s = [] }
 
-unfoldable pub solidCounts : Body → Body → LoveModel → Phases → ℕ → Counts
-solidCounts moon sun love phases selection = withLines (countsOf (bodyCorrections moon sun love)) (lineCorrections phases love selection)
+-- what the bodies raise, with given corrections of lines
+unfoldable pub solidCounts : Body → Body → LoveModel → Corrections → Counts
+solidCounts moon sun love two = withLines (countsOf (bodyCorrections moon sun love)) two

@@ -1,2 +1,3 @@
+pub mod Kept
 pub mod Sizes
-pub mod Unused
+pub mod Unnamed

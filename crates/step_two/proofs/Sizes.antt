@@ -12,6 +12,8 @@ use Rattle.arguments.specs.declared.Phases.{Phases}
 use Rattle.bands.specs.Inner.{Light, Small}
 use Rattle.bands.proofs.Sizes.{corrections-small as lines-small}
 use Rattle.choices.specs.declared.LoveModel.{LoveModel}
+use Rattle.hour.specs.declared.Hour.{Hour}
+use Rattle.hour.specs.Hour.{kept}
 use Rattle.lines.specs.Lines.{linePhase, printedLine}
 use Rattle.lines.proofs.Table.{printed-small}
 use Rattle.selection.specs.Selection.{names, withoutAmplitudes, selected}
@@ -19,7 +21,7 @@ use Rattle.wave.specs.Wave.{sin, cos}
 use Rattle.wave.proofs.Size.{sin-size, cos-size}
 use Rattle.whole.proofs.Machine.{back}
 use Rattle.whole.proofs.Parts.{fits-abs}
-use Rattle.step_two.specs.StepTwo.{corrections}
+use Rattle.step_two.specs.StepTwo.{corrections, keptCorrections}
 
 pub printed-light : (love : LoveModel) (i : ℕ) → Light 472000 (printedLine love i)
 printed-light love i = record { ip = printed-small love i .0; op = printed-small love i .1 }
@@ -54,3 +56,14 @@ unfolding corrections
 corrections-small phases love selection =
     lines-small (selected selection (printedLine love)) (λ i. cos (linePhase phases i)) (λ i. sin (linePhase phases i)) 472000 49 (omega arith) (omega arith)
     (λ i l. selected-light love selection i) (λ i. omega (arith, cos-size (linePhase phases i))) (λ i. omega (arith, sin-size (linePhase phases i)))
+
+-- so for any signed 32-bit values that a record holds
+pub record In32Bits (hour : Hour) : Type 0 where
+  pub cosines : (i : ℕ) → natAbs (kept (hour .cosines) i) ≤ 2 ^ 31
+  pub sines : (i : ℕ) → natAbs (kept (hour .sines) i) ≤ 2 ^ 31
+
+pub kept-small : (hour : Hour) → In32Bits hour → (love : LoveModel) (selection : ℕ) → Small (keptCorrections hour love selection)
+unfolding keptCorrections
+kept-small hour held love selection =
+    lines-small (selected selection (printedLine love)) (kept (hour .cosines)) (kept (hour .sines)) 472000 49 (omega arith) (omega arith)
+    (λ i l. selected-light love selection i) (held .cosines) (held .sines)

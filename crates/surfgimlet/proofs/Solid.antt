@@ -6,7 +6,6 @@ use Prim.Native.Nat.{ℕ, _≤_}
 use native.Mathlib.Omega.{arith}
 use lib.IntN.{ℤ}
 use lib.ListN.{length}
-use Rattle.arguments.specs.declared.Phases.{Phases}
 use Rattle.bands.specs.declared.Corrections.{Corrections as LineCorrections}
 use Rattle.bodies.specs.declared.Body.{Body}
 use Rattle.choices.specs.declared.LoveModel.{LoveModel}
@@ -15,6 +14,7 @@ use Rattle.field.specs.Field.{size, place, everyInRange, fieldRefusal}
 use Rattle.field.specs.Inner.{Ready, addedFrom}
 use Rattle.field.proofs.Accepted.{place-below}
 use Rattle.field.proofs.Added.{at-run}
+use Rattle.hour.specs.declared.Hour.{Hour}
 use Rattle.refusals.specs.declared.Answer.{Answer}
 use Rattle.refusals.specs.declared.Answer.the-variants.{Accepted, Refused}
 use Rattle.refusals.specs.Numbers.{answerNumber}
@@ -28,8 +28,8 @@ use Rattle.solid.specs.Solid.{withLines, countsOf, solidCounts}
 use Rattle.step_one.specs.Inner.{Small}
 use Rattle.step_one.specs.StepOne.{Counts, places, corrections as bodyCorrections, told}
 use Rattle.step_one.proofs.Places.{place-at}
-use Rattle.step_two.specs.StepTwo.{corrections as lineCorrections}
-use Rattle.surfgimlet.specs.Calls.{solidTideRefusal, solidTide}
+use Rattle.step_two.specs.StepTwo.{keptCorrections}
+use Rattle.surfgimlet.specs.Calls.{solidTideRefusal, solidBy, solidTide}
 
 -- a list of an accepted field, and ten counts to correct it by
 pub ready : (n : ℕ) (l by : List ℤ) → 4 ≤ n → length l ≡ size n → everyInRange l ≡ true → length by ≡ 10 → Small 54 by → Ready l 3 by
@@ -53,10 +53,10 @@ pub record Passed (n : ℕ) (c s : List ℤ) (moon sun : Body) (love : LoveModel
   pub bodies : bodyCorrections moon sun love ≡ accepted k
 
 -- both steps' counts
-pub counts-are : (moon sun : Body) (love : LoveModel) (phases : Phases) (selection : ℕ) (k : Counts) → bodyCorrections moon sun love ≡ accepted k
-    → (d : LineCorrections) → d ≡ lineCorrections phases love selection → withLines k d ≡ solidCounts moon sun love phases selection
+pub counts-are : (moon sun : Body) (love : LoveModel) (k : Counts) → bodyCorrections moon sun love ≡ accepted k
+    → (two d : LineCorrections) → d ≡ two → withLines k d ≡ solidCounts moon sun love two
 unfolding solidCounts
-counts-are moon sun love phases selection k seen d same = ap₂ (λ (t : Told Counts) (d : LineCorrections). withLines (countsOf t) d) (sym seen) same
+counts-are moon sun love k seen two d same = ap₂ (λ (t : Told Counts) (d : LineCorrections). withLines (countsOf t) d) (sym seen) same
 
 module _ (n : ℕ) (c s : List ℤ) (moon sun : Body) (love : LoveModel) (selection : ℕ) where
   -- the bodies' answer a with its counts k
@@ -75,13 +75,13 @@ module _ (n : ℕ) (c s : List ℤ) (moon sun : Body) (love : LoveModel) (select
           bodies = sym seen ∙ ap (λ (b : Answer). told b k) (same-answer a Accepted (inner .1));
         }
 
-  module _ (phases : Phases) where
-    pub gives-both : {number : ℕ} (k : Counts) → k ≡ solidCounts moon sun love phases selection → number ≡ solidTideRefusal n c s moon sun love selection → solidTideRefusal n c s moon sun love selection ≡ 0
-        → {c′ s′ : List ℤ} → c′ ≡ addedAt places (k .c) c → s′ ≡ addedAt places (k .s) s → Gives (solidTide n c s moon sun love phases selection) number c′ s′
-    unfolding solidTide
+  module _ (hour : Hour) where
+    pub gives-both : {number : ℕ} (k : Counts) → k ≡ solidCounts moon sun love (keptCorrections hour love selection) → number ≡ solidTideRefusal n c s moon sun love selection → solidTideRefusal n c s moon sun love selection ≡ 0
+        → {c′ s′ : List ℤ} → c′ ≡ addedAt places (k .c) c → s′ ≡ addedAt places (k .s) s → Gives (solidTide n c s moon sun love hour selection) number c′ s′
+    unfolding solidTide solidBy
     gives-both k same e z p q =
         gives-new _ _ _ _ e z (p ∙ ap (λ (k : Counts). addedAt places (k .c) c) same) (q ∙ ap (λ (k : Counts). addedAt places (k .s) s) same)
 
-    pub keeps-both : {number : ℕ} → number ≡ solidTideRefusal n c s moon sun love selection → (solidTideRefusal n c s moon sun love selection ≡ 0 → ⊥) → Gives (solidTide n c s moon sun love phases selection) number c s
-    unfolding solidTide
+    pub keeps-both : {number : ℕ} → number ≡ solidTideRefusal n c s moon sun love selection → (solidTideRefusal n c s moon sun love selection ≡ 0 → ⊥) → Gives (solidTide n c s moon sun love hour selection) number c s
+    unfolding solidTide solidBy
     keeps-both e h = gives-kept _ _ _ _ e h

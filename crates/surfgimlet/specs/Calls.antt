@@ -10,6 +10,7 @@ use Rattle.choices.specs.declared.Frame.{Frame}
 use Rattle.choices.specs.declared.LoveModel.{LoveModel}
 use Rattle.field.specs.Added.{corrected, added, addedAt}
 use Rattle.field.specs.Field.{place, fieldRefusal}
+use Rattle.hour.specs.declared.Hour.{Hour}
 use Rattle.ocean.specs.Ocean.{dC, dS}
 use Rattle.own.specs.declared.OwnLine.{OwnLine}
 use Rattle.own.specs.Own.{recordsRefusal, ownCorrections}
@@ -22,17 +23,22 @@ use Rattle.sheet.specs.Accepted.{sheetRefusal}
 use Rattle.sheet.specs.Sheet.{placeCount}
 use Rattle.solid.specs.Solid.{solidCounts}
 use Rattle.step_one.specs.StepOne.{places, corrections as bodyCorrections}
+use Rattle.step_two.specs.StepTwo.{keptCorrections}
 
 -- ---- solid tide (02, T-06): refusals 1, 2, 14, then the Moon's 3, 4, 5, the Sun's, and 6
 unfoldable pub solidTideRefusal : ℕ → List ℤ → List ℤ → Body → Body → LoveModel → ℕ → ℕ
 solidTideRefusal n c s moon sun love selection =
     firstOf (fieldRefusal n c s) (firstOf (selectionRefusal selection) (toldNumber (bodyCorrections moon sun love)))
 
--- "The correction is the sum of the two, added once."
-unfoldable pub solidTide : ℕ → List ℤ → List ℤ → Body → Body → LoveModel → Phases → ℕ → Outcome
-solidTide n c s moon sun love phases selection =
-    let counts = solidCounts moon sun love phases selection in
+-- "The correction is the sum of the two, added once.": with given corrections of lines
+unfoldable pub solidBy : ℕ → List ℤ → List ℤ → Body → Body → LoveModel → ℕ → Corrections → Outcome
+solidBy n c s moon sun love selection two =
+    let counts = solidCounts moon sun love two in
     unlessRefused (solidTideRefusal n c s moon sun love selection) c s (addedAt places (counts .c) c) (addedAt places (counts .s) s)
+
+-- T-08: "takes this record in place of bare phases and reads the kept values"
+unfoldable pub solidTide : ℕ → List ℤ → List ℤ → Body → Body → LoveModel → Hour → ℕ → Outcome
+solidTide n c s moon sun love hour selection = solidBy n c s moon sun love selection (keptCorrections hour love selection)
 
 -- ---- own lines (02, T-01): refusals 1, 2, then 12, 13
 -- C20, C21, C22; S21, S22

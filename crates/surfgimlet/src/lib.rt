@@ -7,6 +7,7 @@ ghost use Rattle.bands.specs.Inner.{Bounded, roundedOf};
 ghost use Rattle.doodson.specs.Doodson.{readDoodson, writeDoodson, tellsRead, tellsWritten};
 ghost use Rattle.field.specs.Added.{addedAt};
 ghost use Rattle.field.specs.Field.{fieldRefusal};
+ghost use Rattle.hour.specs.Hour.{hourAt, startHour, movedHour};
 ghost use Rattle.lines.specs.Lines.{findLine, tells as tellsSought};
 ghost use Rattle.permanent.specs.Systems.{movedC20, tells as tellsMoved};
 ghost use Rattle.refusals.specs.Numbers.{answerNumber};
@@ -15,6 +16,7 @@ ghost use Rattle.profiles.specs.Profiles.{allLines, majorLines};
 ghost use Rattle.selection.specs.Selection.{linesNamed, tells as tellsNamed};
 ghost use Rattle.surfgimlet.specs.Calls.{placesC, placesS, fiveCorrected, solidTide, ownLines, poleTide, oceanTide};
 ghost use Rattle.surfgimlet.specs.Inner.{FiveReady};
+use arguments::Argument;
 use arguments::Multipliers;
 use arguments::Phases;
 use bands::Corrections;
@@ -24,6 +26,7 @@ use choices::LoveModel;
 use choices::PermanentSystem;
 use doodson::Read;
 use doodson::Written;
+use hour::Hour;
 use lines::Sought;
 use own::OwnLine;
 use own::Summed;
@@ -60,8 +63,8 @@ fn add_own(n: u32, c: &mut [i64], s: &mut [i64], sum: Summed) -> Answer
     answer
 }
 
-// Solid tide (001, eqs. 1 to 7 and Tables 6.2; document 01, "Step one" and "Step two"; document 02, T-04 and T-06).
-// Given: a field, the Moon, the Sun, the Love model, six phases, a selection whose bit i names printed line i.
+// Solid tide (001, eqs. 1 to 7 and Tables 6.2; document 01, "Step one" and "Step two"; document 02, T-04, T-06 and T-08).
+// Given: a field, the Moon, the Sun, the Love model, an hour whose kept waves are read, a selection whose bit i names printed line i.
 // Done: the corrections of both steps are added as one: of degree 2, 3 and 4 what the bodies raise, the permanent part of C20 left out,
 // and to C20, C21, S21, C22 and S22 what the lines named, and no others, add.
 // Answered: how many lines are named.
@@ -73,10 +76,10 @@ pub fn solid_tide(
     moon: Body,
     sun: Body,
     love: LoveModel,
-    phases: Phases,
+    hour: Hour,
     selection: u64,
 ) -> Named
-    ensures { λ r. ⌜ GivesValue (solidTide n (now (c .entry)) (now (s .entry)) moon sun love phases selection) (linesNamed selection) (tellsNamed r) (now (c .exit)) (now (s .exit)) ⌝ }
+    ensures { λ r. ⌜ GivesValue (solidTide n (now (c .entry)) (now (s .entry)) moon sun love hour selection) (linesNamed selection) (tellsNamed r) (now (c .exit)) (now (s .exit)) ⌝ }
 {
     let chosen = selection::tested(selection);
     let one = step_one::corrections_of(moon, sun, love);
@@ -84,7 +87,7 @@ pub fn solid_tide(
     let given = refusals::first_of(chosen, bodies);
     match refusals::first_of(field::tested(n, c, s), given) {
         Answer::Accepted => {
-            let two = step_two::corrections_of(phases, love, selection);
+            let two = step_two::corrections_of(hour, love, selection);
             let d = solid::with_lines(one, two);
             let in_c = d.c;
             let in_s = d.s;
@@ -94,6 +97,27 @@ pub fn solid_tide(
         }
         Answer::Refused(why) => Named::Refused(why),
     }
+}
+
+// The hour that others begin from (document 02, T-08): all phases zero, with the waves of the printed lines at them.
+pub fn start_hour() -> Hour
+    ensures { λ r. ⌜ r ≡ startHour ⌝ }
+{
+    hour::start()
+}
+
+// Any hour with all its phases replaced: nothing of it stays, so that none is given.
+pub fn set_hour(phases: Phases) -> Hour
+    ensures { λ r. ⌜ r ≡ hourAt phases ⌝ }
+{
+    hour::set_to(phases)
+}
+
+// An hour with one phase moved, wrapping round the turn. Lines that have the argument get their waves afresh; the others keep those that are held.
+pub fn move_hour(hour: Hour, argument: Argument, amount: i32) -> Hour
+    ensures { λ r. ⌜ r ≡ movedHour hour argument amount ⌝ }
+{
+    hour::moved(hour, argument, amount)
 }
 
 // The selection of all 49 printed lines.

@@ -1,13 +1,12 @@
--- The first values of a function as a list.
+-- Laws of the first values of a function as a list.
 use mathlib.Core.List.{List, [], _∷_}
 use mathlib.Core.Path.{_≡_, refl, sym, ap, _∙_}
 use Prim.Native.Nat.{ℕ, zero, suc, _<_}
 use native.Mathlib.Nat.{le-of-suc-le-suc, not-suc-le-zero}
+use native.Mathlib.Omega.{arith}
 use lib.ListN.{length, getD}
-
-unfoldable pub listed : {B : Type 0} → (ℕ → B) → ℕ → List B
-listed f zero = []
-listed f (suc n) = f 0 ∷ listed (λ i. f (suc i)) n
+use lib.Seq.{ext-getD}
+use Rattle.whole.specs.Listed.{listed}
 
 pub listed-length : {B : Type 0} (f : ℕ → B) (n : ℕ) → length (listed f n) ≡ n
 unfolding listed
@@ -23,3 +22,11 @@ at-listed f (suc n) (suc i) e h = at-listed (λ i. f (suc i)) n i e (le-of-suc-l
 -- two functions whose values are the same lists agree there
 pub agree : {B : Type 0} (f g : ℕ → B) (n : ℕ) → listed f n ≡ listed g n → (i : ℕ) → i < n → f i ≡ g i
 agree f g n same i h = sym (at-listed f n i (f 0) h) ∙ ap (λ (l : List _). getD l i (f 0)) same ∙ at-listed g n i (f 0) h
+
+-- a list with these entries is that list
+pub is-listed : {B : Type 0} (e : B) (l : List B) (f : ℕ → B) (n : ℕ) → length l ≡ n → ((i : ℕ) → i < n → getD l i e ≡ f i) → l ≡ listed f n
+is-listed e l f n long each =
+    ext-getD e l (listed f n) (long ∙ sym (listed-length f n)) (λ i h. let b : i < n = omega (arith, long) in each i b ∙ sym (at-listed f n i e b))
+
+pub listed-same : {B : Type 0} (f g : ℕ → B) (n : ℕ) → ((i : ℕ) → i < n → f i ≡ g i) → listed f n ≡ listed g n
+listed-same f g n each = is-listed (f 0) (listed f n) g n (listed-length f n) (λ i h. at-listed f n i (f 0) h ∙ each i h)

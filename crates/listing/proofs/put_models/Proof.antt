@@ -1,13 +1,17 @@
 -- The header and the two lines, each put after the other, each end where the next begins.
 use borrow.Author.Needs.{needs}
 use mathlib.Core.List.{List, _++_}
-use mathlib.Core.Path.{_≡_, ap, _∙_}
+use mathlib.Core.Path.{_≡_, ap₂, _∙_}
 use Prim.Native.Nat.{ℕ}
 use native.Mathlib.Omega.{arith}
 use lib.ListN.{length-append}
+use Rattle.bands.specs.declared.Corrections.{Corrections}
+use Rattle.choices.specs.declared.LoveModel.{LoveModel}
 use Rattle.choices.specs.declared.LoveModel.the-variants.{Elastic, Anelastic}
 use Rattle.profiles.specs.Profiles.{allLines}
-use Rattle.step_two.specs.StepTwo.{corrections}
+use Rattle.hour.specs.declared.Hour.{Hour}
+use Rattle.step_two.specs.StepTwo.{corrections, keptCorrections}
+use Rattle.step_two.proofs.Kept.{set-corrections}
 use Rattle.step_two.proofs.Sizes.{corrections-small}
 use Rattle.text.specs.Text.{ascii}
 use Rattle.text.specs.Inner.{Put}
@@ -30,6 +34,9 @@ module _ (s : tie.Start) where
 all-lines-requires : tie.Need-all-lines-requires
 all-lines-requires c κs = search needs
 
+set-to-requires : tie.Need-set-to-requires
+set-to-requires c κs = search needs
+
 slice-aggregate-put-word : tie.Need-slice-aggregate-put-word
 slice-aggregate-put-word c = search needs
 
@@ -44,10 +51,15 @@ corrections-of-requires c κs = search needs
 
 module _ (c : tie.After-put-word) where
   abbrev start : tie.Start
-  start = c .before .before .before .before .before
+  start = c .before .before .before .before .before .before
 
-  all-lines : c .before .before .before .all-lines .result ≡ allLines
-  all-lines = c .before .before .before .all-lines .ensures
+  -- what step two gives at the hour set, of all lines
+  at-hour : {d : Corrections} (love : LoveModel) → d ≡ keptCorrections (c .before .before .before .set-to .result) love (c .before .before .before .before .all-lines .result)
+      → d ≡ corrections (start .args .phases) love allLines
+  at-hour love e =
+      e
+      ∙ ap₂ (λ (h : Hour) (k : ℕ). keptCorrections h love k) (c .before .before .before .set-to .ensures) (c .before .before .before .before .all-lines .ensures)
+      ∙ set-corrections (start .args .phases) love allLines
 
   done : Put (start .args .out .now) 0 (header start) (c .put-word .last .0) (c .put-word .result)
   unfolding ascii
@@ -62,7 +74,7 @@ module _ (c : tie.After-put-model) where
   word = c .before .before .before .before .before .before
 
   given : c .before .corrections-of .result ≡ corrections (start word .args .phases) Elastic allLines
-  given = c .before .corrections-of .ensures ∙ ap (λ (k : ℕ). corrections (start word .args .phases) Elastic k) (all-lines word)
+  given = at-hour word Elastic (c .before .corrections-of .ensures .0)
 
   done-elastic : Put (start word .args .out .now) 0 (header (start word) ++ elastic (start word)) (c .put-model .last .0) (c .put-model .result)
   unfolding ascii
@@ -86,7 +98,7 @@ module _ (c : tie.After-put-model2) where
   first-line = c .before .before .before .before .before .before
 
   given-2 : c .before .corrections-of2 .result ≡ corrections (start (word first-line) .args .phases) Anelastic allLines
-  given-2 = c .before .corrections-of2 .ensures ∙ ap (λ (k : ℕ). corrections (start (word first-line) .args .phases) Anelastic k) (all-lines (word first-line))
+  given-2 = at-hour (word first-line) Anelastic (c .before .corrections-of2 .ensures .0)
 
   all : Put (start (word first-line) .args .out .now) 0 (modelsText (start (word first-line) .args .phases)) (c .put-model2 .last .0) (c .put-model2 .result)
   unfolding ascii modelsText
@@ -103,6 +115,7 @@ put-models-spec =
     tie.close
     (tie.spec
     all-lines-requires
+    set-to-requires
     slice-aggregate-put-word
     put-word-requires
     slice-aggregate-put-model

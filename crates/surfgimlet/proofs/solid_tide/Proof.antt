@@ -1,12 +1,11 @@
 -- The first refusal of the field's, the selection's and the bodies' is answered; where there is none, the counts of both steps are added at the ten places.
 use borrow.Author.Needs.{needs}
-use mathlib.Core.Path.{_≡_, sym, ap, ap₂, subst, _∙_}
+use mathlib.Core.Path.{_≡_, sym, ap, ap₂, _∙_}
 use mathlib.Core.List.{List}
 use Prim.Native.Nat.{ℕ}
 use lib.IntN.{ℤ}
 use lib.ListN.{length}
 use Rattle.bands.specs.declared.Corrections.{Corrections as LineCorrections}
-use Rattle.bands.specs.Inner.{Small as SmallCorrections}
 use Rattle.field.specs.Inner.{Ready}
 use Rattle.field.proofs.Accepted.{Accepted, accepted-field}
 use Rattle.refusals.specs.Numbers.{answerNumber}
@@ -22,8 +21,7 @@ use Rattle.step_one.specs.declared.Corrections.{Corrections}
 use Rattle.step_one.specs.Inner.{Small}
 use Rattle.step_one.specs.StepOne.{Counts}
 use Rattle.step_one.proofs.Counted.{accepted-small}
-use Rattle.step_two.specs.StepTwo.{corrections as lineCorrections}
-use Rattle.step_two.proofs.Sizes.{corrections-small}
+use Rattle.step_two.specs.StepTwo.{keptCorrections}
 use Rattle.surfgimlet.specs.Calls.{solidTideRefusal}
 use Rattle.surfgimlet.proofs.Solid.{ready, run-is, Passed, number-is, all-pass, counts-are, gives-both, keeps-both}
 use Rattle.surfgimlet.proofs.solid_tide.Statement.{statement}
@@ -76,8 +74,8 @@ module _ (t : tie.After-corrections-of2) where
   good : Accepted (x .args .n) (in-c told) (in-s told)
   good = accepted-field _ _ _ (passed told nothing .field)
 
-  step-two : two ≡ lineCorrections (x .args .phases) (x .args .love) (x .args .selection)
-  step-two = t .corrections-of2 .ensures
+  step-two : two ≡ keptCorrections (x .args .hour) (x .args .love) (x .args .selection)
+  step-two = t .corrections-of2 .ensures .0
 
   room : Room (countsIn (one told)) two
   room =
@@ -85,7 +83,7 @@ module _ (t : tie.After-corrections-of2) where
       record {
         in-c = small .in-c;
         in-s = small .in-s;
-        lines = subst SmallCorrections (sym step-two) (corrections-small (x .args .phases) (x .args .love) (x .args .selection));
+        lines = t .corrections-of2 .ensures .1;
       }
 
 -- and both steps as one
@@ -96,8 +94,8 @@ module _ (w : tie.After-with-lines) where
   abbrev d : Corrections
   d = w .with-lines .result
 
-  both : countsIn d ≡ solidCounts (x lines .args .moon) (x lines .args .sun) (x lines .args .love) (x lines .args .phases) (x lines .args .selection)
-  both = w .with-lines .ensures ∙ counts-are _ _ _ _ _ (countsIn (one (told lines))) (passed (told lines) (nothing lines) .bodies) (two lines) (step-two lines)
+  both : countsIn d ≡ solidCounts (x lines .args .moon) (x lines .args .sun) (x lines .args .love) (keptCorrections (x lines .args .hour) (x lines .args .love) (x lines .args .selection))
+  both = w .with-lines .ensures ∙ counts-are _ _ _ (countsIn (one (told lines))) (passed (told lines) (nothing lines) .bodies) _ (two lines) (step-two lines)
 
   small-c : Small 54 (d .c)
   small-c = rw (ap (λ (k : Counts). k .c) (w .with-lines .ensures)) (with-lines-c _ _ (room lines))
@@ -137,7 +135,7 @@ returns-2 c =
     let a = start f .args in
     let e = sym (ap answerNumber (why .1)) ∙ first f in
     let some : number f ≡ 0 → ⊥ = λ z. refusal-not-zero (why .0 .0) (e ∙ z) in
-    with-value (linesNamed (a .selection)) (keeps-both _ _ _ _ _ _ _ (a .phases) e some)
+    with-value (linesNamed (a .selection)) (keeps-both _ _ _ _ _ _ _ (a .hour) e some)
     (tells-refusal (linesNamed (a .selection)) _ (refusal-not-zero (why .0 .0)))
 
 pub solid-tide-spec : {M : Type 1} → statement M

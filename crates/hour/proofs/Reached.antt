@@ -1,0 +1,108 @@
+-- Document 02, T-08: "After any calls from the start, the kept values equal those worked out afresh from its phases." And of any record: moving by a and
+-- then by b is moving by a + b, modulo a turn. Of those reached: moving by nothing changes nothing.
+use borrow.Author.Tests.{leb-false}
+use mathlib.Core.Bool.{Bool, true, false, cond}
+use mathlib.Core.List.{List, [], _∷_}
+use mathlib.Core.Path.{_≡_, refl, sym, ap, _∙_}
+use Prim.Native.Nat.{ℕ, _^_, _≤_, _<_}
+use native.Mathlib.Omega.{arith}
+use lib.Dec.{ltb}
+use lib.IntN.{ℤ, pos, negsuc, natAbs, _+ℤ_}
+use Rattle.arguments.specs.declared.Argument.{Argument}
+use Rattle.arguments.specs.declared.Phases.{Phases}
+use Rattle.arguments.specs.Phase.{modulo, multiplierOf, movedPhases}
+use Rattle.arguments.proofs.Moved.{InATurn, moved-twice, moved-by-nothing, phase-unmoved}
+use Rattle.lines.specs.Lines.{multipliersAt, linePhase}
+use Rattle.wave.specs.Wave.{sin, cos}
+use Rattle.whole.specs.Listed.{listed}
+use Rattle.whole.proofs.Listed.{at-listed, listed-same}
+use Rattle.hour.specs.declared.Hour.{Hour}
+use Rattle.hour.specs.Hour.{kept, hourAt, startHour, hasArgument, movedHour, HourCall, SetHour, MoveHour, called, after, reached, Fresh}
+
+-- ---- what a record that is fresh holds
+module _ (hour : Hour) (fresh : Fresh hour) (i : ℕ) (h : i < 49) where
+  pub fresh-cosine : kept (hour .cosines) i ≡ cos (linePhase (hour .phases) i)
+  unfolding hourAt
+  fresh-cosine = ap (λ (x : Hour). kept (x .cosines) i) fresh ∙ at-listed (λ j. cos (linePhase (hour .phases) j)) 49 i (pos 0) h
+
+  pub fresh-sine : kept (hour .sines) i ≡ sin (linePhase (hour .phases) i)
+  unfolding hourAt
+  fresh-sine = ap (λ (x : Hour). kept (x .sines) i) fresh ∙ at-listed (λ j. sin (linePhase (hour .phases) j)) 49 i (pos 0) h
+
+-- ---- a line without the argument keeps its phase, and so its wave
+without : (z : ℤ) → ltb 0 (natAbs z) ≡ false → z ≡ pos 0
+without z e = no-size z (leb-false 1 (natAbs z) e)
+  where
+    no-size : (y : ℤ) → natAbs y < 1 → y ≡ pos 0
+    no-size (pos n) h = let q : n ≡ 0 = omega arith in ap pos q
+    no-size (negsuc n) h = absurd (omega arith)
+
+module _ (hour : Hour) (argument : Argument) (amount : ℤ) where
+  abbrev phases : Phases
+  phases = movedPhases (hour .phases) argument amount
+
+  -- a wave W of line i, held in l
+  renewed-is : (W : ℕ → ℤ) (l : List ℤ) (i : ℕ) → kept l i ≡ W (linePhase (hour .phases) i)
+      → cond (hasArgument argument (multipliersAt i)) (W (linePhase phases i)) (kept l i) ≡ W (linePhase phases i)
+  unfolding hasArgument
+  renewed-is W l i e = by-test (hasArgument argument (multipliersAt i)) refl
+    where
+      by-test : (b : Bool) → hasArgument argument (multipliersAt i) ≡ b → cond b (W (linePhase phases i)) (kept l i) ≡ W (linePhase phases i)
+      by-test true q = refl
+      by-test false q = e ∙ ap W (sym (phase-unmoved (multipliersAt i) (hour .phases) argument amount (without (multiplierOf (multipliersAt i) argument) q)))
+
+  pub moved-fresh : Fresh hour → movedHour hour argument amount ≡ hourAt phases
+  unfolding movedHour hourAt
+  moved-fresh fresh =
+      let cosines = listed-same _ (λ i. cos (linePhase phases i)) 49 (λ i h. renewed-is cos (hour .cosines) i (fresh-cosine hour fresh i h)) in
+      let sines = listed-same _ (λ i. sin (linePhase phases i)) 49 (λ i h. renewed-is sin (hour .sines) i (fresh-sine hour fresh i h)) in
+      λ j. record { phases = phases; cosines = cosines j; sines = sines j }
+
+-- ---- the start has it, and each call keeps it
+pub set-fresh : (phases : Phases) → Fresh (hourAt phases)
+unfolding hourAt
+set-fresh phases = refl
+
+pub start-fresh : Fresh startHour
+unfolding startHour
+start-fresh = set-fresh _
+
+pub called-fresh : (hour : Hour) (call : HourCall) → Fresh hour → Fresh (called hour call)
+unfolding called movedHour
+called-fresh hour (SetHour phases) fresh = set-fresh phases
+called-fresh hour (MoveHour argument amount) fresh = moved-fresh hour argument amount fresh
+
+after-fresh : (hour : Hour) (calls : List HourCall) → Fresh hour → Fresh (after hour calls)
+unfolding after
+after-fresh hour [] fresh = fresh
+after-fresh hour (call ∷ calls) fresh = after-fresh (called hour call) calls (called-fresh hour call fresh)
+
+pub reached-fresh : (calls : List HourCall) → Fresh (reached calls)
+reached-fresh calls = after-fresh startHour calls start-fresh
+
+-- ---- moves
+-- of any record: a line with the argument is renewed at the last phases, and a line without it stays
+module _ (argument : Argument) (W : ℕ → ℤ) (l : List ℤ) where
+  abbrev held : Phases → ℕ → ℤ
+  held phases i = cond (hasArgument argument (multipliersAt i)) (W (linePhase phases i)) (kept l i)
+
+  renewed-again : (p q : Phases) → listed (λ i. cond (hasArgument argument (multipliersAt i)) (W (linePhase q i)) (kept (listed (held p) 49) i)) 49 ≡ listed (held q) 49
+  renewed-again p q = listed-same _ (held q) 49 (λ i h. by-test (hasArgument argument (multipliersAt i)) i (at-listed (held p) 49 i (pos 0) h))
+    where
+      by-test : (b : Bool) (i : ℕ) {x : ℤ} → x ≡ cond b (W (linePhase p i)) (kept l i) → cond b (W (linePhase q i)) x ≡ cond b (W (linePhase q i)) (kept l i)
+      by-test true i e = refl
+      by-test false i e = e
+
+pub moves-add : (hour : Hour) (argument : Argument) (a b d : ℤ) → modulo d (2 ^ 32) ≡ modulo (a +ℤ b) (2 ^ 32)
+    → movedHour (movedHour hour argument a) argument b ≡ movedHour hour argument d
+unfolding movedHour
+moves-add hour argument a b d same =
+    let first = movedPhases (hour .phases) argument a in
+    let p : movedPhases first argument b ≡ movedPhases (hour .phases) argument d = moved-twice (hour .phases) argument a b d same in
+    let cosines = renewed-again argument cos (hour .cosines) first (movedPhases first argument b) ∙ ap (λ (q : Phases). listed (held argument cos (hour .cosines) q) 49) p in
+    let sines = renewed-again argument sin (hour .sines) first (movedPhases first argument b) ∙ ap (λ (q : Phases). listed (held argument sin (hour .sines) q) 49) p in
+    λ j. record { phases = p j; cosines = cosines j; sines = sines j }
+
+-- of a record reached, whose phases the machine holds
+pub moved-by-none : (hour : Hour) (argument : Argument) → Fresh hour → InATurn (hour .phases) → movedHour hour argument (pos 0) ≡ hour
+moved-by-none hour argument fresh turn = moved-fresh hour argument (pos 0) fresh ∙ ap hourAt (moved-by-nothing (hour .phases) argument turn) ∙ sym fresh
