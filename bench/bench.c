@@ -10,9 +10,10 @@
 
 #define SIZE 1891
 #define ROUNDS 300
-#define CALLS 80000
+#define CALLS 120000
 
-enum { SOLID, OWN, POLE, OCEAN, KINDS };
+/* ANEW is the solid tide, its hour set in front of it */
+enum { SOLID, OWN, POLE, OCEAN, SET, MOVE, KINDS, ANEW = KINDS };
 
 /* what a call is given */
 static uint32_t n, choice;
@@ -20,6 +21,11 @@ static surfgimlet_phases phases = {123456789, 2345678901u, 3456789012u, 45678901
 static surfgimlet_body moon = {SURFGIMLET_DIRECTION, 0.0123, 0.6, 0.48, 0.64, 3.8e8};
 static surfgimlet_body sun = {SURFGIMLET_RECTANGULAR, 332946, 9e10, 7.2e10, -9.6e10, 1.5e11};
 static double radians[6];
+static surfgimlet_hour hour;
+static doubles_hour hour_d;
+static uint32_t argument;
+static int32_t amount;
+static double radians_more;
 static uint64_t selection;
 static surfgimlet_own_line lines[70];
 static size_t lines_length;
@@ -33,18 +39,24 @@ static uint32_t answer, named;
 
 /* ---- the ways */
 
-/* the solid tide is one call, or the two steps where that is 0 */
-typedef struct { const char *name; solid_call *solid; own_call *own; pole_call *pole; ocean_call *ocean; step_one_call *one; step_two_call *two; } way;
+/* where set is 0 the solid tide is that of phases, and where this is 0 too the two steps */
+typedef struct {
+    const char *name;
+    start_call *start; set_call *set; move_call *move; solid_call *solid; own_call *own; pole_call *pole; ocean_call *ocean;
+    phases_call *of_phases; step_one_call *one; step_two_call *two;
+} way;
 
 static const way ways[] = {
-    {"unit", surfgimlet_solid_tide, surfgimlet_own_lines, surfgimlet_pole_tide, surfgimlet_ocean_tide, 0, 0},
-    {"gcc", gcc_solid_tide, gcc_own_lines, gcc_pole_tide, gcc_ocean_tide, 0, 0},
+    {"unit", surfgimlet_start_hour, surfgimlet_set_hour, surfgimlet_move_hour, surfgimlet_solid_tide, surfgimlet_own_lines, surfgimlet_pole_tide,
+     surfgimlet_ocean_tide, 0, 0, 0},
+    {"gcc", gcc_start_hour, gcc_set_hour, gcc_move_hour, gcc_solid_tide, gcc_own_lines, gcc_pole_tide, gcc_ocean_tide, 0, 0, 0},
 #ifdef WITH_CLANG
-    {"clang", clang_solid_tide, clang_own_lines, clang_pole_tide, clang_ocean_tide, 0, 0},
+    {"clang", clang_start_hour, clang_set_hour, clang_move_hour, clang_solid_tide, clang_own_lines, clang_pole_tide, clang_ocean_tide, 0, 0, 0},
 #endif
 #ifdef WITH_EARLIER
-    {"earlier", earlier_surfgimlet_solid_tide, earlier_surfgimlet_own_lines, earlier_surfgimlet_pole_tide, earlier_surfgimlet_ocean_tide,
-     earlier_surfgimlet_step_one, earlier_surfgimlet_step_two},
+    {"earlier", earlier_surfgimlet_start_hour, earlier_surfgimlet_set_hour, earlier_surfgimlet_move_hour, earlier_surfgimlet_solid_tide,
+     earlier_surfgimlet_own_lines, earlier_surfgimlet_pole_tide, earlier_surfgimlet_ocean_tide, earlier_solid_tide_of_phases, earlier_surfgimlet_step_one,
+     earlier_surfgimlet_step_two},
 #endif
 };
 #define WAYS ((int)(sizeof ways / sizeof *ways))
@@ -55,9 +67,10 @@ static const way ways[] = {
 #define EARLIER WAYS
 #endif
 
-/* an earlier archive may be without the pole tide, or make the solid tide in two steps */
-static int has(int by, int what) { return what != POLE || by == DOUBLES || ways[by].pole; }
-static int in_two_steps(int by, int what) { return what == SOLID && by != DOUBLES && !ways[by].solid; }
+/* an earlier archive may be without the pole tide, make the solid tide of phases or in two steps, and so keep no hour */
+static int has(int by, int what) { return by == DOUBLES || (what == POLE ? ways[by].pole != 0 : what == SET || what == MOVE ? ways[by].set != 0 : 1); }
+static int of_phases(int by, int what) { return (what == SOLID || what == ANEW) && by != DOUBLES && !ways[by].set; }
+static int in_two_steps(int by, int what) { return of_phases(by, what) && !ways[by].of_phases; }
 
 static size_t size_of(uint32_t degree) { return (size_t)(degree + 1) * (degree + 2) / 2; }
 
@@ -65,15 +78,26 @@ static void call(int what, int by)
 {
     size_t size = size_of(n);
     if (by == DOUBLES) {
-        if (what == SOLID) doubles_solid_tide(cd, sd, moon, sun, choice, radians, selection);
+        if (what == SET || what == ANEW) doubles_set_hour(&hour_d, radians);
+        if (what == SOLID || what == ANEW) doubles_solid_tide(cd, sd, moon, sun, choice, &hour_d, selection);
+        else if (what == MOVE) doubles_move_hour(&hour_d, argument, radians_more);
         else if (what == OWN) answer = doubles_own_lines(cd, sd, lines, lines_length, radians);
         else if (what == POLE) doubles_pole_tide(cd, sd, arcseconds[0], arcseconds[1], choice);
-        else answer = doubles_ocean_tide(n, cd, sd, sheet, length, radians, choice);
+        else if (what == OCEAN) answer = doubles_ocean_tide(n, cd, sd, sheet, length, radians, choice);
     } else if (in_two_steps(by, what)) {
         answer = ways[by].one(n, c, size, s, size, moon, sun, choice);
         if (!answer) answer = ways[by].two(n, c, size, s, size, phases, choice, selection, &named);
+    } else if (of_phases(by, what)) {
+        answer = ways[by].of_phases(n, c, size, s, size, moon, sun, choice, phases, selection, &named);
     } else if (what == SOLID) {
-        answer = ways[by].solid(n, c, size, s, size, moon, sun, choice, phases, selection, &named);
+        answer = ways[by].solid(n, c, size, s, size, moon, sun, choice, hour, selection, &named);
+    } else if (what == ANEW) {
+        answer = ways[by].solid(n, c, size, s, size, moon, sun, choice, ways[by].set(phases), selection, &named);
+    } else if (what == SET) {
+        hour = ways[by].set(phases);
+        answer = 0;
+    } else if (what == MOVE) {
+        hour = ways[by].move(hour, argument, amount, &answer);
     } else if (what == OWN) {
         answer = ways[by].own(n, c, size, s, size, lines, lines_length, phases);
     } else if (what == POLE) {
@@ -148,6 +172,23 @@ static uint64_t any_selection(void)
     }
 }
 
+/* any 32 bits, every second one an end of the range or about zero */
+static int32_t any_value(void)
+{
+    static const int32_t ends[5] = {INT32_MIN, INT32_MAX, 0, 1, -1};
+    return any(2) ? ends[any(5)] : (int32_t)any(UINT64_C(1) << 32);
+}
+
+/* the hour of the phases, or one in four written by hand, with any values */
+static int by_hand;
+
+static void make_hour(void)
+{
+    hour = surfgimlet_set_hour(phases);
+    by_hand = !any(4);
+    for (int i = 0; by_hand && i < 49; i++) { hour.cosines[i] = any_value(); hour.sines[i] = any_value(); }
+}
+
 /* An elastic correction is a half at one offset in a hundred. An anelastic one is where 625 xp + 7 yp, or 625 yp - 7 xp, is an odd multiple of 78125:
  * too seldom to be left to chance. */
 static void make_offsets(void)
@@ -200,16 +241,27 @@ enum { ONE, ARC, RANDOM };
 static epoch one, epochs[1024];
 static int epochs_length, epoch_now;
 
+static const uint32_t in_30_seconds[6] = {1440808, 54584, 4083, 461, 219, 0};
+
 static void make_epochs(int kind)
 {
-    static const uint32_t in_30_seconds[6] = {1440808, 54584, 4083, 461, 219, 0};
     uint32_t p[6] = {0};
     go_to(&one);
+    hour = surfgimlet_set_hour(phases);
+    doubles_set_hour(&hour_d, radians);
     epochs_length = kind == ONE ? 0 : 1024;
     for (int k = 0; k < epochs_length; k++) {
         for (int i = 0; i < 6; i++) p[i] += in_30_seconds[i];
         epochs[k] = kind == ARC ? epoch_at(p) : any_epoch();
     }
+}
+
+/* a move of as much as 30 seconds bring */
+static void make_move(uint32_t of)
+{
+    argument = of;
+    amount = (int32_t)in_30_seconds[of];
+    radians_more = amount * (6.283185307179586 / 4294967296.0);
 }
 
 static void next_epoch(void)
@@ -244,6 +296,7 @@ static int comparable(uint32_t unit, const int64_t *c_unit, const int64_t *s_uni
 static uint32_t hold(int what)
 {
     static int64_t c_before[SIZE], s_before[SIZE], c_unit[SIZE], s_unit[SIZE];
+    surfgimlet_hour hour_before = hour, hour_unit;
     uint32_t unit, named_before = (uint32_t)any(UINT64_C(1) << 32), named_unit;
     memcpy(c_before, c, sizeof c);
     memcpy(s_before, s, sizeof s);
@@ -251,22 +304,25 @@ static uint32_t hold(int what)
     call(what, 0);
     unit = answer;
     named_unit = named;
+    hour_unit = hour;
     memcpy(c_unit, c, sizeof c);
     memcpy(s_unit, s, sizeof s);
     for (int by = 1; by < WAYS; by++) {
-        if (!has(by, what) || in_two_steps(by, what) && !comparable(unit, c_unit, s_unit)) continue;
+        if (!has(by, what) || of_phases(by, what) && by_hand || in_two_steps(by, what) && !comparable(unit, c_unit, s_unit)) continue;
         if (by == EARLIER) earlier_compared++;
         memcpy(c, c_before, sizeof c);
         memcpy(s, s_before, sizeof s);
         named = named_before;
+        hour = hour_before;
         call(what, by);
-        if (answer == unit && named == named_unit && !memcmp(c, c_unit, sizeof c) && !memcmp(s, s_unit, sizeof s)) continue;
+        if (answer == unit && named == named_unit && !memcmp(c, c_unit, sizeof c) && !memcmp(s, s_unit, sizeof s)
+            && !memcmp(&hour, &hour_unit, sizeof hour)) continue;
         if (by == EARLIER) {
             earlier_differs++;
         } else {
-            printf("best.c by %s differs from the unit: call %d, N = %u, choice %u, selection %#llx, offsets %lld and %lld, answers %u and %u, "
-                   "lines %u and %u\n", ways[by].name, what, n, choice, (unsigned long long)selection, (long long)xp, (long long)yp, answer, unit,
-                   named, named_unit);
+            printf("best.c by %s differs from the unit: call %d, N = %u, choice %u, selection %#llx, argument %u, amount %d, offsets %lld and %lld, "
+                   "answers %u and %u, lines %u and %u\n", ways[by].name, what, n, choice, (unsigned long long)selection, argument, amount, (long long)xp,
+                   (long long)yp, answer, unit, named, named_unit);
             exit(1);
         }
     }
@@ -299,6 +355,11 @@ static void hold_all(void)
 {
     static const uint32_t degrees[6] = {4, 12, 60, 7, 3, 61};
     long refused[101] = {0};
+    hour = surfgimlet_start_hour();
+    for (int by = 1; by < EARLIER; by++) {
+        surfgimlet_hour start = ways[by].start();
+        if (memcmp(&start, &hour, sizeof hour)) { printf("best.c by %s starts from another hour than the unit\n", ways[by].name); exit(1); }
+    }
     for (long i = 0; i < CALLS; i++) {
         int what = (int)(i % KINDS);
         int64_t edge = (int64_t)1 << 60;
@@ -312,17 +373,22 @@ static void hold_all(void)
         if (what == OCEAN) make_sheet(1 + (int)any(8), 1 + (int)any(4), (int)any(16));
         if (what == OWN) make_lines(any(8) ? (int)any(65) : 60 + (int)any(11));
         if (what == SOLID) selection = any_selection();
+        if (what == SOLID || what == MOVE) make_hour();
+        if (what == MOVE) { argument = (uint32_t)any(8); amount = any_value(); }
         if (what == POLE) make_offsets();
         spoil_any();
         if (!any(4)) spoil_any();
         refused[hold(what)]++;
     }
-    printf("best.c: the unit's answers, counts and numbers of lines on %d calls; answered", CALLS);
+    by_hand = 0;
+    printf("best.c: the unit's answers, counts, hours and numbers of lines on %d calls; answered", CALLS);
     for (int i = 0; i <= 100; i++) if (refused[i]) printf(" %d: %ld", i, refused[i]);
     if (EARLIER < WAYS) {
-        printf("\nthe earlier archive: other answers, counts or numbers of lines than the unit's on %ld of %ld of them", earlier_differs, earlier_compared);
+        printf("\nthe earlier archive: other answers, counts, hours or numbers of lines than the unit's on %ld of %ld of them", earlier_differs, earlier_compared);
+        if (of_phases(EARLIER, SOLID)) printf(", its solid tide compared where the hour is that of its phases");
         if (in_two_steps(EARLIER, SOLID)) printf(", its two steps compared where the unit accepts the solid tide and leaves every entry 2^20 within the range");
         if (!has(EARLIER, POLE)) printf(", the pole tide's left out, since it has none");
+        if (!has(EARLIER, SET)) printf(", the hour's left out, since it keeps none");
     }
     puts("\n");
 }
@@ -365,7 +431,8 @@ static double best_c(const double *best, const char **by)
 
 typedef struct { const char *name; int what; int lines, tides, places; uint32_t n, choice; double of_c, of_doubles; int epochs; } row;
 
-/* lines are a sheet's, own ones, or those that the solid tide's selection names; of_c and of_doubles are the ratios to reach, 0 where none is set */
+/* lines are a sheet's, own ones, or those that the solid tide's selection names; of_c and of_doubles are the ratios to reach, 0 where none is set; the choice
+ * of a move is its argument */
 static const row rows[] = {
     {"ocean 128/32/90", OCEAN, 128, 32, 90, 12, 0, 1.10, 0.90, ONE},
     {"ocean 128/32/90", OCEAN, 128, 32, 90, 60, 0, 1.10, 0, ONE},
@@ -375,16 +442,31 @@ static const row rows[] = {
     {"ocean 8/2/6", OCEAN, 8, 2, 6, 4, 0, 0, 0, ONE},
     {"ocean 8/2/6", OCEAN, 8, 2, 6, 12, 0, 1.25, 0, ONE},
     {"ocean 8/2/6", OCEAN, 8, 2, 6, 60, 0, 0, 0, ONE},
-    {"solid tide, anelastic", SOLID, 49, 0, 0, 4, 1, 1.35, 0, ONE},
-    {"solid tide, anelastic", SOLID, 49, 0, 0, 12, 1, 1.35, 0.95, ONE},
-    {"solid tide, anelastic", SOLID, 49, 0, 0, 60, 1, 1.20, 0, ONE},
-    {"solid tide, anelastic, along an arc", SOLID, 49, 0, 0, 4, 1, 0, 0, ARC},
-    {"solid tide, anelastic, at random", SOLID, 49, 0, 0, 4, 1, 0, 0, RANDOM},
-    {"solid tide, anelastic, major lines", SOLID, 21, 0, 0, 12, 1, 0, 0, ONE},
-    {"solid tide, anelastic, no line", SOLID, 0, 0, 0, 12, 1, 0, 0, ONE},
-    {"solid tide, elastic", SOLID, 49, 0, 0, 4, 0, 1.35, 0, ONE},
-    {"solid tide, elastic", SOLID, 49, 0, 0, 12, 0, 1.35, 0, ONE},
-    {"solid tide, elastic", SOLID, 49, 0, 0, 60, 0, 0, 0, ONE},
+    {"solid tide, hour kept, anelastic", SOLID, 49, 0, 0, 4, 1, 1.15, 0, ONE},
+    {"solid tide, hour kept, anelastic", SOLID, 49, 0, 0, 12, 1, 1.15, 0, ONE},
+    {"solid tide, hour kept, anelastic", SOLID, 49, 0, 0, 60, 1, 1.15, 0, ONE},
+    {"solid tide, hour kept, anelastic, major lines", SOLID, 21, 0, 0, 12, 1, 0, 0, ONE},
+    {"solid tide, hour kept, anelastic, no line", SOLID, 0, 0, 0, 12, 1, 0, 0, ONE},
+    {"solid tide, hour kept, elastic", SOLID, 49, 0, 0, 4, 0, 0, 0, ONE},
+    {"solid tide, hour kept, elastic", SOLID, 49, 0, 0, 12, 0, 0, 0, ONE},
+    {"solid tide, hour kept, elastic", SOLID, 49, 0, 0, 60, 0, 0, 0, ONE},
+    {"solid tide, hour set anew, anelastic", ANEW, 49, 0, 0, 4, 1, 1.35, 0, ONE},
+    {"solid tide, hour set anew, anelastic", ANEW, 49, 0, 0, 12, 1, 1.35, 0.95, ONE},
+    {"solid tide, hour set anew, anelastic", ANEW, 49, 0, 0, 60, 1, 1.20, 0, ONE},
+    {"solid tide, hour set anew, anelastic, along an arc", ANEW, 49, 0, 0, 4, 1, 0, 0, ARC},
+    {"solid tide, hour set anew, anelastic, at random", ANEW, 49, 0, 0, 4, 1, 0, 0, RANDOM},
+    {"solid tide, hour set anew, elastic", ANEW, 49, 0, 0, 4, 0, 1.35, 0, ONE},
+    {"solid tide, hour set anew, elastic", ANEW, 49, 0, 0, 12, 0, 1.35, 0, ONE},
+    {"solid tide, hour set anew, elastic", ANEW, 49, 0, 0, 60, 0, 0, 0, ONE},
+    {"set hour", SET, 0, 0, 0, 0, 0, 0, 0, ONE},
+    {"set hour, along an arc", SET, 0, 0, 0, 0, 0, 0, 0, ARC},
+    {"set hour, at random", SET, 0, 0, 0, 0, 0, 0, 0, RANDOM},
+    {"move hour, tau", MOVE, 0, 0, 0, 0, SURFGIMLET_TAU, 0, 0, ONE},
+    {"move hour, s", MOVE, 0, 0, 0, 0, SURFGIMLET_S, 0, 0, ONE},
+    {"move hour, h", MOVE, 0, 0, 0, 0, SURFGIMLET_H, 0, 0, ONE},
+    {"move hour, p", MOVE, 0, 0, 0, 0, SURFGIMLET_P, 0, 0, ONE},
+    {"move hour, N'", MOVE, 0, 0, 0, 0, SURFGIMLET_NP, 0, 0, ONE},
+    {"move hour, ps", MOVE, 0, 0, 0, 0, SURFGIMLET_PS, 0, 0, ONE},
     {"own lines 64", OWN, 64, 0, 0, 12, 0, 0, 0, ONE},
     {"own lines 64", OWN, 64, 0, 0, 60, 0, 0, 0, ONE},
     {"pole tide, anelastic", POLE, 0, 0, 0, 4, 1, 0, 0, ONE},
@@ -409,7 +491,8 @@ static void compare(const row *r)
     choice = r->choice;
     if (r->what == OCEAN) make_sheet(r->lines, r->tides, r->places);
     if (r->what == OWN) make_lines(r->lines);
-    if (r->what == SOLID) make_selection(r->lines);
+    if (r->what == SOLID || r->what == ANEW) make_selection(r->lines);
+    if (r->what == MOVE) make_move(r->choice);
     make_epochs(r->epochs);
     memset(c, 0, sizeof c);
     memset(s, 0, sizeof s);
@@ -417,7 +500,9 @@ static void compare(const row *r)
     for (int k = 0; k < ROUNDS; k++)
         for (int i = 0; i <= WAYS; i++) if (has(i, r->what)) time_once(r->what, i, &best[i]);
     c_time = best_c(best, &by);
-    printf("| %s | %u | %.0f | %.0f %s | %.0f |", r->name, n, best[0], c_time, by, best[DOUBLES]);
+    printf("| %s |", r->name);
+    if (n) printf(" %u", n);
+    printf(" | %.0f | %.0f %s | %.0f |", best[0], c_time, by, best[DOUBLES]);
     put_ratio(best[0] / c_time, r->of_c);
     put_ratio(best[0] / best[DOUBLES], r->of_doubles);
     if (!has(EARLIER, r->what)) printf(" | |");
@@ -455,7 +540,6 @@ int main(void)
     static const int by_place[4][4] = {{64, 8, 0, 12}, {64, 8, 30, 12}, {64, 8, 60, 12}, {64, 8, 90, 12}};
     static const int by_own[4][4] = {{8, 0, 0, 12}, {16, 0, 0, 12}, {32, 0, 0, 12}, {64, 0, 0, 12}};
     static const int by_entry[4][4] = {{49, 0, 0, 4}, {49, 0, 0, 12}, {49, 0, 0, 30}, {49, 0, 0, 60}};
-    doubles_prepare();
     hold_all();
     one = any_epoch();
     moon = (surfgimlet_body){SURFGIMLET_DIRECTION, 0.0123, 0.6, 0.48, 0.64, 3.8e8};
@@ -479,6 +563,6 @@ int main(void)
     grow("tide: 4, 8, 16, 32", OCEAN, by_tide, 1);
     grow("place: 0, 30, 60, 90", OCEAN, by_place, 2);
     grow("own line: 8, 16, 32, 64", OWN, by_own, 0);
-    grow("entry: the solid tide at N = 4, 12, 30, 60", SOLID, by_entry, 3);
+    grow("entry: the solid tide, hour kept, at N = 4, 12, 30, 60", SOLID, by_entry, 3);
     return 0;
 }

@@ -1,5 +1,5 @@
-/* The unit's four calls over a field, in C written for speed: the same refusals in the same order and the same counts, no intrinsics.
- * Each compiler's copy has names of its own, by -D'CALL(x)=..'. Compile with -ffp-contract=off. */
+/* The unit's four calls over a field and the three that make an hour, in C written for speed: the same refusals in the same order, the same counts and the
+ * same hours, no intrinsics. Each compiler's copy has names of its own, by -D'CALL(x)=..'. Compile with -ffp-contract=off. */
 #include <math.h>
 #include <string.h>
 #include "bench.h"
@@ -81,93 +81,153 @@ INLINE int64_t nearest(int64_t sum, uint64_t over, uint64_t most)
     return (int64_t)(((uint64_t)sum + most * over + over / 2 - (sum < 0)) / over) - (int64_t)most;
 }
 
+/* ---- the hour */
+
+/* the digits are constants: what they multiply by 0 goes, and the rest is little more than added */
+#define PHASE(T, S, H, P, N, Q) (T * b.tau + (S - 5u) * b.s + (H - 5u) * b.h + (P - 5u) * b.p + (N - 5u) * b.np + (Q - 5u) * b.ps)
+#define EACH(i, T, S, H, P, N, Q, first, second) phases[i] = PHASE(T, S, H, P, N, Q);
+
+surfgimlet_hour CALL(set_hour)(surfgimlet_phases b)
+{
+    uint32_t phases[LINES], sines[LINES], cosines[LINES];
+    surfgimlet_hour hour;
+    hour.phases = b;
+    PRINTED(EACH)
+    waves(phases, LINES, sines, cosines);
+    for (int i = 0; i < LINES; i++) {
+        hour.cosines[i] = (int32_t)wave(cosines[i]);
+        hour.sines[i] = (int32_t)wave(sines[i]);
+    }
+    return hour;
+}
+
+/* every cosine is one, every sine nothing */
+surfgimlet_hour CALL(start_hour)(void)
+{
+    surfgimlet_hour hour = {.phases = {0}};
+    for (int i = 0; i < LINES; i++) hour.cosines[i] = INT32_C(1) << 30;
+    return hour;
+}
+
+/* a line has an argument unless its digit is 0, of tau, or 5, of another */
+#define IF_0(x)
+#define IF_1(x) x
+#define IF_2(x) x
+#define IF_3(x) x
+#define IF_4(x) x
+#define IF_5(x)
+#define IF_6(x) x
+#define IF_7(x) x
+#define IF_8(x) x
+#define IF_9(x) x
+#define RENEW(i, T, S, H, P, N, Q) at[count] = i; phases[count++] = PHASE(T, S, H, P, N, Q);
+#define WITH_TAU(i, T, S, H, P, N, Q, first, second) IF_##T(RENEW(i, T, S, H, P, N, Q))
+#define WITH_S(i, T, S, H, P, N, Q, first, second) IF_##S(RENEW(i, T, S, H, P, N, Q))
+#define WITH_H(i, T, S, H, P, N, Q, first, second) IF_##H(RENEW(i, T, S, H, P, N, Q))
+#define WITH_P(i, T, S, H, P, N, Q, first, second) IF_##P(RENEW(i, T, S, H, P, N, Q))
+#define WITH_NP(i, T, S, H, P, N, Q, first, second) IF_##N(RENEW(i, T, S, H, P, N, Q))
+#define WITH_PS(i, T, S, H, P, N, Q, first, second) IF_##Q(RENEW(i, T, S, H, P, N, Q))
+
+surfgimlet_hour CALL(move_hour)(surfgimlet_hour hour, uint32_t argument, int32_t amount, uint32_t *answer)
+{
+    uint32_t phases[LINES], sines[LINES], cosines[LINES];
+    uint8_t at[LINES];
+    size_t count = 0;
+    surfgimlet_hour moved = hour;
+    surfgimlet_phases b = hour.phases;
+    *answer = 0;
+    switch (argument) {
+    case SURFGIMLET_TAU: b.tau += (uint32_t)amount; PRINTED(WITH_TAU) break;
+    case SURFGIMLET_S: b.s += (uint32_t)amount; PRINTED(WITH_S) break;
+    case SURFGIMLET_H: b.h += (uint32_t)amount; PRINTED(WITH_H) break;
+    case SURFGIMLET_P: b.p += (uint32_t)amount; PRINTED(WITH_P) break;
+    case SURFGIMLET_NP: b.np += (uint32_t)amount; PRINTED(WITH_NP) break;
+    case SURFGIMLET_PS: b.ps += (uint32_t)amount; PRINTED(WITH_PS) break;
+    default: *answer = SURFGIMLET_NO_SUCH_CHOICE; return moved;
+    }
+    moved.phases = b;
+    waves(phases, count, sines, cosines);
+    for (size_t k = 0; k < count; k++) {
+        moved.cosines[at[k]] = (int32_t)wave(cosines[k]);
+        moved.sines[at[k]] = (int32_t)wave(sines[k]);
+    }
+    return moved;
+}
+
 /* ---- solid tide: the lines */
 
 /* the lines from one index to before another, as a selection */
 #define BITS(from, to) ((ONE << (to)) - (ONE << (from)))
 
-/* the digits without the amplitudes between them, so that four can be read at once */
-#define DIGITS(digits, first, second) digits,
-static const uint32_t digits[LINES] = {PRINTED(DIGITS)};
+/* A kept value is 2^16 times its upper half, and its lower half, which is unsigned: with 2^15 taken off, both are signed numbers of 16 bits, as the amplitudes
+ * are, and eight such products go at a time. The lists, of 28 lines, have each amplitude at the lower half or at the upper one, and 0 at the other. */
+enum { LISTED = 28, HALVES = 2 * LISTED };
+typedef int16_t half_value __attribute__((may_alias));
+typedef struct { _Alignas(16) int16_t lower[HALVES], upper[HALVES]; int64_t sum; } amplitudes;
+
+#define LOWER_1(i, T, S, H, P, N, Q, first, second) first, 0,
+#define UPPER_1(i, T, S, H, P, N, Q, first, second) 0, first,
+#define PLUS_1(i, T, S, H, P, N, Q, first, second) + (first)
+#define LOWER_2(i, T, S, H, P, N, Q, first, second) second, 0,
+#define UPPER_2(i, T, S, H, P, N, Q, first, second) 0, second,
+#define PLUS_2(i, T, S, H, P, N, Q, first, second) + (second)
+
+/* from the first line, with nothing of two beyond the diurnal ones; up to the last, with nothing of the five before those of long period nor of two beyond */
+#define BEFORE 0, 0, 0, 0, 0, 0, 0, 0, 0, 0,
+static const amplitudes diurnal[2] = {{{DIURNAL_LINES(LOWER_1)}, {DIURNAL_LINES(UPPER_1)}, DIURNAL_LINES(PLUS_1)},
+                                      {{DIURNAL_LINES(LOWER_2)}, {DIURNAL_LINES(UPPER_2)}, DIURNAL_LINES(PLUS_2)}};
+static const amplitudes in_phase = {{BEFORE LONG_PERIOD_LINES(LOWER_1)}, {BEFORE LONG_PERIOD_LINES(UPPER_1)}, LONG_PERIOD_LINES(PLUS_1)};
+static const amplitudes out_of_phase = {{BEFORE LONG_PERIOD_LINES(LOWER_2)}, {BEFORE LONG_PERIOD_LINES(UPPER_2)}, LONG_PERIOD_LINES(PLUS_2)};
+
+/* Where clang sees the amplitudes it takes the products apart, and of itself it takes four at a time. */
+static __attribute__((noinline)) int64_t product(const int32_t *values, const amplitudes *a)
+{
+    const half_value *v = (const half_value *)values;
+    int32_t lower = 0, upper = 0;
+#ifdef __clang__
+#pragma clang loop vectorize_width(8)
+#endif
+    for (int j = 0; j < HALVES; j++) {
+        lower += a->lower[j] * (int16_t)(v[j] ^ 0x8000);
+        upper += a->upper[j] * v[j];
+    }
+    return upper * INT64_C(65536) + lower + a->sum * 32768;
+}
 
 typedef struct { int64_t c20, c21, s21, c22, s22; } sums;
 
-/* every digit but the first is five too many: fives is what that comes to */
-INLINE uint32_t phase_of(uint32_t d, surfgimlet_phases b, uint32_t fives)
+/* the values of the lines named, 0 for the others */
+#define BIT(i, T, S, H, P, N, Q, first, second) UINT32_C(1) << i % 32,
+static const uint32_t bits[LINES] = {PRINTED(BIT)};
+
+INLINE void keep(const int32_t *restrict values, uint64_t named, int32_t *restrict kept)
 {
-    return (d >> 20) * b.tau + (d >> 16 & 15) * b.s + (d >> 12 & 15) * b.h + (d >> 8 & 15) * b.p + (d >> 4 & 15) * b.np + (d & 15) * b.ps - fives;
+    uint32_t low = (uint32_t)named, high = (uint32_t)(named >> 32);
+    for (int i = 0; i < 32; i++) kept[i] = values[i] & -((low & bits[i]) == bits[i]);
+    for (int i = 32; i < LINES; i++) kept[i] = values[i] & -((high & bits[i]) == bits[i]);
 }
 
-/* all lines that the model uses: the phases four at a time, each line's wave at its own index */
-INLINE sums of_all(surfgimlet_phases b, uint32_t fives, uint32_t love)
-{
-    uint32_t phases[LINES], sines[LINES], cosines[LINES];
-    sums t = {0};
-    for (int i = 0; i < LINES; i++) phases[i] = phase_of(digits[i], b, fives);
-    if (love) {
-        waves(phases, LINES, sines, cosines);
-        for (int i = 0; i < DIURNAL; i++) {
-            t.c21 += printed[i].second * wave(sines[i]);
-            t.s21 += printed[i].second * wave(cosines[i]);
-        }
-        for (int i = DIURNAL; i < SEMIDIURNAL; i++) t.c20 += printed[i].first * wave(cosines[i]) - printed[i].second * wave(sines[i]);
-    } else {
-        waves(phases, DIURNAL, sines, cosines);
-        waves(phases + SEMIDIURNAL, LINES - SEMIDIURNAL, sines + SEMIDIURNAL, cosines + SEMIDIURNAL);
-        for (int i = 0; i < DIURNAL; i++) {
-            t.c21 += printed[i].first * wave(sines[i]);
-            t.s21 += printed[i].first * wave(cosines[i]);
-        }
-    }
-    for (int i = SEMIDIURNAL; i < LINES; i++) {
-        t.c22 += printed[i].first * wave(cosines[i]);
-        t.s22 -= printed[i].first * wave(sines[i]);
-    }
-    return t;
-}
-
-/* the first line of a selection that names one, taken off it */
-INLINE int next_of(uint64_t *left)
-{
-    int i = __builtin_ctzll(*left);
-    *left &= *left - 1;
-    return i;
-}
-
-/* some of them: phases and waves of these alone, side by side in the order of the lines */
-INLINE sums of_some(surfgimlet_phases b, uint32_t fives, uint32_t love, uint64_t named)
-{
-    uint32_t phases[LINES], sines[LINES], cosines[LINES];
-    uint64_t left = named;
-    size_t count = 0, k = 0;
-    sums t = {0};
-    if (!named) return t;
-    while (left) phases[count++] = phase_of(digits[next_of(&left)], b, fives);
-    waves(phases, count, sines, cosines);
-    for (left = named & BITS(0, DIURNAL); left; k++) {
-        int i = next_of(&left);
-        int64_t amplitude = love ? printed[i].second : printed[i].first;
-        t.c21 += amplitude * wave(sines[k]);
-        t.s21 += amplitude * wave(cosines[k]);
-    }
-    for (left = named & BITS(DIURNAL, SEMIDIURNAL); left; k++) {
-        int i = next_of(&left);
-        t.c20 += printed[i].first * wave(cosines[k]) - printed[i].second * wave(sines[k]);
-    }
-    for (left = named & BITS(SEMIDIURNAL, LINES); left; k++) {
-        int i = next_of(&left);
-        t.c22 += printed[i].first * wave(cosines[k]);
-        t.s22 -= printed[i].first * wave(sines[k]);
-    }
-    return t;
-}
+#define SEMI(i, T, S, H, P, N, Q, first, second) t.c22 += INT64_C(first) * cosines[i]; t.s22 -= INT64_C(first) * sines[i];
 
 /* those of a selection, in 2^-30 of 100 counts */
-INLINE sums of_lines(surfgimlet_phases b, uint32_t love, uint64_t selection)
+INLINE sums of_lines(const surfgimlet_hour *hour, uint32_t love, uint64_t selection)
 {
-    uint64_t used = love ? BITS(0, LINES) : BITS(0, LINES) ^ BITS(DIURNAL, SEMIDIURNAL);
-    uint32_t fives = 5 * (b.s + b.h + b.p + b.np + b.ps);
-    return (selection & used) == used ? of_all(b, fives, love) : of_some(b, fives, love, selection & used);
+    const uint64_t used = love ? BITS(0, LINES) : BITS(0, LINES) ^ BITS(DIURNAL, SEMIDIURNAL), named = selection & used;
+    const int32_t *cosines = hour->cosines, *sines = hour->sines;
+    int32_t kept_cosines[LINES], kept_sines[LINES];
+    sums t = {0};
+    if (!named) return t;
+    if (named != used) {
+        keep(cosines, named, kept_cosines);
+        keep(sines, named, kept_sines);
+        cosines = kept_cosines;
+        sines = kept_sines;
+    }
+    t.c21 = product(sines, &diurnal[love]);
+    t.s21 = product(cosines, &diurnal[love]);
+    if (love) t.c20 = product(cosines + LINES - LISTED, &in_phase) - product(sines + LINES - LISTED, &out_of_phase);
+    SEMIDIURNAL_LINES(SEMI)
+    return t;
 }
 
 /* ---- solid tide: the bodies */
@@ -243,7 +303,7 @@ INLINE uint32_t of_bodies(const surfgimlet_body *moon, const surfgimlet_body *su
 
 /* Both steps' corrections of an entry are one sum, added once. */
 uint32_t CALL(solid_tide)(uint32_t n, int64_t *restrict c, size_t c_length, int64_t *restrict s, size_t s_length, surfgimlet_body moon, surfgimlet_body sun,
-                          uint32_t love, surfgimlet_phases b, uint64_t selection, uint32_t *restrict lines)
+                          uint32_t love, surfgimlet_hour hour, uint64_t selection, uint32_t *restrict lines)
 {
     double dc[10], ds[10];
     uint32_t refusal;
@@ -252,7 +312,7 @@ uint32_t CALL(solid_tide)(uint32_t n, int64_t *restrict c, size_t c_length, int6
     if ((refusal = field_refusal(n, c, c_length, s, s_length))) return refusal;
     if (selection >> LINES) return 14;
     if ((refusal = of_bodies(&moon, &sun, love, dc, ds))) return refusal;
-    t = of_lines(b, love, selection);
+    t = of_lines(&hour, love, selection);
     *lines = (uint32_t)__builtin_popcountll(selection);
     c[3] += count(dc[0]) + nearest_30(100 * t.c20) + (love ? 4200675 : 4108147);
     c[4] += count(dc[1]) + nearest_30(100 * t.c21);

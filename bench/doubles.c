@@ -1,21 +1,36 @@
-/* What a user would write: a field of doubles, phases in radians, sine and cosine of the C library, nothing rounded to counts.
- * The sheet and the records of own lines are tested; the field, the bodies, the selection and the pole's offsets are taken on trust. */
+/* What a user would write: a field of doubles, phases in radians, sine and cosine of the C library, kept with the hour, nothing rounded to counts.
+ * The sheet and the records of own lines are tested; the field, the bodies, the selection, the argument and the pole's offsets are taken on trust. */
 #include <math.h>
 #include <string.h>
 #include "bench.h"
 #include "lines.h"
 
-static double multipliers[LINES][6];
-
-void doubles_prepare(void)
-{
-    for (int i = 0; i < LINES; i++)
-        for (int j = 0; j < 6; j++) multipliers[i][j] = (double)(printed[i].digits >> (20 - 4 * j) & 15) - (j > 0 ? 5 : 0);
-}
+#define ROW(i, T, S, H, P, N, Q, first, second) {{T, S - 5, H - 5, P - 5, N - 5, Q - 5}, first * 1e-13, second * 1e-13},
+static const struct { double multipliers[6], first, second; } printed[LINES] = {PRINTED(ROW)};
 
 static double angle(const double m[6], const double phases[6])
 {
     return m[0] * phases[0] + m[1] * phases[1] + m[2] * phases[2] + m[3] * phases[3] + m[4] * phases[4] + m[5] * phases[5];
+}
+
+static void renew(doubles_hour *hour, int i)
+{
+    double x = angle(printed[i].multipliers, hour->phases);
+    hour->cosines[i] = cos(x);
+    hour->sines[i] = sin(x);
+}
+
+void doubles_set_hour(doubles_hour *hour, const double phases[6])
+{
+    memcpy(hour->phases, phases, sizeof hour->phases);
+    for (int i = 0; i < LINES; i++) renew(hour, i);
+}
+
+void doubles_move_hour(doubles_hour *hour, uint32_t argument, double amount)
+{
+    hour->phases[argument] = fmod(hour->phases[argument] + amount, 6.283185307179586);
+    for (int i = 0; i < LINES; i++)
+        if (printed[i].multipliers[argument] != 0) renew(hour, i);
 }
 
 /* P and Q of one body, added to what is there */
@@ -35,7 +50,7 @@ static void raise(surfgimlet_body body, double p[7], double q[7])
     p[6] += n[6] * e3; q[6] += n[6] * f3;
 }
 
-void doubles_solid_tide(double *c, double *s, surfgimlet_body moon, surfgimlet_body sun, uint32_t love, const double phases[6], uint64_t selection)
+void doubles_solid_tide(double *c, double *s, surfgimlet_body moon, surfgimlet_body sun, uint32_t love, const doubles_hour *hour, uint64_t selection)
 {
     static const double real[2][7] = {{0.29525, 0.29470, 0.29801, 0.093, 0.093, 0.093, 0.094}, {0.30190, 0.29830, 0.30102, 0.093, 0.093, 0.093, 0.094}};
     static const double imaginary[2][7] = {{0}, {0, -0.00144, -0.00130}};
@@ -53,11 +68,8 @@ void doubles_solid_tide(double *c, double *s, surfgimlet_body moon, surfgimlet_b
         }
     }
     for (int i = 0; i < LINES; i++) {
-        double x, sine, cosine, first = printed[i].first * 1e-13, second = printed[i].second * 1e-13;
+        double sine = hour->sines[i], cosine = hour->cosines[i], first = printed[i].first, second = printed[i].second;
         if (!(selection >> i & 1) || i >= DIURNAL && i < SEMIDIURNAL && !love) continue;
-        x = angle(multipliers[i], phases);
-        sine = sin(x);
-        cosine = cos(x);
         if (i < DIURNAL) {
             c21 += (love ? second : first) * sine;
             s21 += (love ? second : first) * cosine;

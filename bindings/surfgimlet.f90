@@ -5,19 +5,28 @@ module surfgimlet
     implicit none
     private
     public :: c_int32_t, c_int64_t, c_size_t, c_double, c_int8_t
-    public :: phases, body, own_line, phase, words
-    public :: version, solid_tide, all_lines, major_lines, own_lines, pole_tide, ocean_tide, move_c20
+    public :: phases, hour, body, own_line, phase, words
+    public :: version, start_hour, set_hour, move_hour
+    public :: solid_tide, all_lines, major_lines, own_lines, pole_tide, ocean_tide, move_c20
     public :: multipliers_of, number_of, find_line
 
-    integer(c_int32_t), parameter, public :: header_version = 3001000
+    integer(c_int32_t), parameter, public :: header_version = 4000000
     integer(c_int32_t), parameter, public :: elastic = 0, anelastic = 1
     integer(c_int32_t), parameter, public :: centre_of_figure = 0, centre_of_mass = 1
     integer(c_int32_t), parameter, public :: tide_free = 0, zero_tide = 1, mean_tide = 2
     integer(c_int32_t), parameter, public :: rectangular = 0, direction = 1
+    integer(c_int32_t), parameter, public :: argument_tau = 0, argument_s = 1, argument_h = 2
+    integer(c_int32_t), parameter, public :: argument_p = 3, argument_np = 4, argument_ps = 5
 
     ! np is N' = -Omega
     type, bind(c) :: phases
         integer(c_int32_t) :: tau, s, h, p, np, ps
+    end type
+
+    ! six phases, and the cosines and sines of the 49 printed lines at them, in units of 2**(-30), line i at i + 1
+    type, bind(c) :: hour
+        type(phases) :: phases
+        integer(c_int32_t) :: cosines(49), sines(49)
     end type
 
     ! the mass in Earth masses; x, y, z and the distance r in metres, or x, y, z of length one
@@ -37,6 +46,23 @@ module surfgimlet
             import
         end function
 
+        type(hour) function start_hour() bind(c, name="surfgimlet_start_hour")
+            import
+        end function
+
+        type(hour) function set_hour(at) bind(c, name="surfgimlet_set_hour")
+            import
+            type(phases), value :: at
+        end function
+
+        ! the answer is 0 or 100
+        type(hour) function move_hour(at, argument, amount, answer) bind(c, name="surfgimlet_move_hour")
+            import
+            type(hour), value :: at
+            integer(c_int32_t), value :: argument, amount
+            integer(c_int32_t), intent(out) :: answer
+        end function
+
         integer(c_int32_t) function c_solid_tide(n, c, c_length, s, s_length, moon, sun, love_model, at, selection, lines) &
             bind(c, name="surfgimlet_solid_tide")
             import
@@ -44,7 +70,7 @@ module surfgimlet
             integer(c_int64_t), intent(inout) :: c(*), s(*)
             integer(c_size_t), value :: c_length, s_length
             type(body), value :: moon, sun
-            type(phases), value :: at
+            type(hour), value :: at
             integer(c_int64_t), value :: selection
             integer(c_int32_t), intent(inout) :: lines
         end function
@@ -120,7 +146,7 @@ contains
         integer(c_int32_t), intent(in) :: n, love_model
         integer(c_int64_t), intent(inout), contiguous :: c(:), s(:)
         type(body), intent(in) :: moon, sun
-        type(phases), intent(in) :: at
+        type(hour), intent(in) :: at
         integer(c_int64_t), intent(in) :: selection
         integer(c_int32_t), intent(inout) :: lines
         answer = c_solid_tide(n, c, size(c, kind=c_size_t), s, size(s, kind=c_size_t), moon, sun, love_model, at, selection, lines)
@@ -179,7 +205,7 @@ contains
         case (13); words = "an own line has a multiplier outside -13..13, a first one not 0, 1 or 2, or an amplitude beyond 100,000"
         case (14); words = "the selection has a bit above 48, which stands for no line"
         case (15); words = "a pole offset is outside -1,000,000..1,000,000 micro-arcseconds"
-        case (100); words = "a choice, or a body's kind, is none of its numbers"
+        case (100); words = "a choice, a body's kind or an argument is none of its numbers"
         case default; words = "no answer of this unit"
         end select
     end function

@@ -13,11 +13,12 @@ from array import array
 from collections import namedtuple
 from ctypes import POINTER, byref, c_double, c_int32, c_int64, c_size_t, c_uint8, c_uint32, c_uint64
 
-VERSION = 3001000
+VERSION = 4000000
 ELASTIC, ANELASTIC = 0, 1
 CENTRE_OF_FIGURE, CENTRE_OF_MASS = 0, 1
 TIDE_FREE, ZERO_TIDE, MEAN_TIDE = 0, 1, 2
 RECTANGULAR, DIRECTION = 0, 1
+TAU, S, H, P, NP, PS = 0, 1, 2, 3, 4, 5
 
 WORDS = {
     0: "accepted",
@@ -36,7 +37,7 @@ WORDS = {
     13: "an own line has a multiplier outside -13..13, a first one not 0, 1 or 2, or an amplitude beyond 100,000",
     14: "the selection has a bit above 48, which stands for no line",
     15: "a pole offset is outside -1,000,000..1,000,000 micro-arcseconds",
-    100: "a choice, or a body's kind, is none of its numbers",
+    100: "a choice, a body's kind or an argument is none of its numbers",
 }
 
 # np is N' = -Omega
@@ -65,6 +66,12 @@ class _Phases(ctypes.Structure):
     _fields_ = [(name, c_uint32) for name in Phases._fields]
 
 
+class Hour(ctypes.Structure):
+    """Six phases, and the cosines and sines of the 49 printed lines at them, in units of 2^-30, as start_hour, set_hour and move_hour make it. What is
+    written into it by hand ctypes cuts to 32 bits."""
+    _fields_ = [('phases', _Phases), ('cosines', c_int32 * 49), ('sines', c_int32 * 49)]
+
+
 class _Body(ctypes.Structure):
     _fields_ = [('kind', c_uint32)] + [(name, c_double) for name in Body._fields[1:]]
 
@@ -79,7 +86,7 @@ def _library():
     lists = [c_uint32, POINTER(c_int64), c_size_t, POINTER(c_int64), c_size_t]
     for name, given in (
             ('version', []),
-            ('solid_tide', lists + [_Body, _Body, c_uint32, _Phases, c_uint64, POINTER(c_uint32)]),
+            ('solid_tide', lists + [_Body, _Body, c_uint32, Hour, c_uint64, POINTER(c_uint32)]),
             ('own_lines', lists + [POINTER(_OwnLine), c_size_t, _Phases]),
             ('pole_tide', lists + [c_int64, c_int64, c_uint32]),
             ('ocean_tide', lists + [POINTER(c_uint8), c_size_t, _Phases, c_uint32]),
@@ -92,6 +99,9 @@ def _library():
     for name in ('all_lines', 'major_lines'):
         call = getattr(library, 'surfgimlet_' + name)
         call.argtypes, call.restype = [], c_uint64
+    for name, given in (('start_hour', []), ('set_hour', [_Phases]), ('move_hour', [Hour, c_uint32, c_int32, POINTER(c_uint32)])):
+        call = getattr(library, 'surfgimlet_' + name)
+        call.argtypes, call.restype = given, Hour
     return library
 
 
@@ -144,10 +154,28 @@ def version():
     return _unit.surfgimlet_version()
 
 
-def solid_tide(n, c, s, moon, sun, love_model, phases, selection):
+def start_hour():
+    """The Hour of all phases zero."""
+    return _unit.surfgimlet_start_hour()
+
+
+def set_hour(phases):
+    """The Hour of these phases, for any number of fields."""
+    return _unit.surfgimlet_set_hour(_phases(phases))
+
+
+def move_hour(hour, argument, amount):
+    """An Hour with one phase moved, TAU to PS, by a signed 32-bit amount; the one given stays."""
+    answer = c_uint32()
+    moved = _unit.surfgimlet_move_hour(hour, _u32(argument), array('i', [amount])[0], byref(answer))
+    _accepted(answer.value)
+    return moved
+
+
+def solid_tide(n, c, s, moon, sun, love_model, hour, selection):
     """Bit i of the selection names line i; answers how many lines are named."""
     lines = c_uint32()
-    given = _body(moon), _body(sun), _u32(love_model), _phases(phases), _unsigned(selection, 64)
+    given = _body(moon), _body(sun), _u32(love_model), hour, _unsigned(selection, 64)
     _over_field(_unit.surfgimlet_solid_tide, n, c, s, *given, byref(lines))
     return lines.value
 

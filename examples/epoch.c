@@ -113,10 +113,13 @@ int main(int argc, char **argv)
     accepted("move_c20", surfgimlet_move_c20(-484165000000000, SURFGIMLET_TIDE_FREE, SURFGIMLET_ZERO_TIDE, love, &c20));
     printf("C20 zero-tide %" PRId64 "\n", c20);
 
+    /* made once for the epoch, and used for any number of fields */
+    surfgimlet_hour hour = surfgimlet_set_hour(at);
+
     /* what the Moon and the Sun raise, and the lines of a laser operator's selection; an altimeter operator's may be
      * surfgimlet_major_lines() */
     uint32_t named;
-    accepted("solid_tide", surfgimlet_solid_tide(DEGREE, c, ENTRIES, s, ENTRIES, moon, sun, love, at, surfgimlet_all_lines(), &named));
+    accepted("solid_tide", surfgimlet_solid_tide(DEGREE, c, ENTRIES, s, ENTRIES, moon, sun, love, hour, surfgimlet_all_lines(), &named));
     added("solid tide");
     printf("lines named %" PRIu32 "\n", named);
     accepted("own_lines", surfgimlet_own_lines(DEGREE, c, ENTRIES, s, ENTRIES, lines, lines_length, at));
@@ -128,7 +131,7 @@ int main(int argc, char **argv)
 
     /* K1 is 165,555; a printed line by its number, and a number that none has */
     int32_t n[6];
-    uint32_t number;
+    uint32_t number, answer;
     size_t index;
     int64_t first, second;
     accepted("multipliers_of", surfgimlet_multipliers_of(165555, n));
@@ -137,6 +140,10 @@ int main(int argc, char **argv)
     for (int i = 0; i < 6; i++) printf(" %" PRId32, n[i]);
     accepted("find_line", surfgimlet_find_line(number, &index, &first, &second));
     printf("\nline %zu amplitudes %" PRId64 " %" PRId64 "\n", index, first, second);
+    printf("cosine %" PRId32 " sine %" PRId32 " at this hour\n", hour.cosines[index], hour.sines[index]);
+    hour = surfgimlet_move_hour(surfgimlet_start_hour(), SURFGIMLET_S, 1 << 30, &answer);
+    accepted("move_hour", answer);
+    printf("cosine %" PRId32 " sine %" PRId32 " from the start, s moved by a quarter turn\n", hour.cosines[index], hour.sines[index]);
     printf("265555: %s\n", surfgimlet_words(surfgimlet_find_line(265555, &index, &first, &second)));
     return 0;
 }

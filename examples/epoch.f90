@@ -13,6 +13,7 @@ program epoch
     integer(c_size_t) :: index
     integer(c_int8_t), allocatable :: sheet(:)
     type(phases) :: at
+    type(hour) :: kept
     type(body) :: moon, sun
     type(own_line), allocatable :: lines(:)
     integer :: status
@@ -36,8 +37,11 @@ program epoch
     call accepted('move_c20', move_c20(-484165000000000_c_int64_t, tide_free, zero_tide, love, c20))
     print '(a, i0)', 'C20 zero-tide ', c20
 
+    ! made once for the epoch, and used for any number of fields
+    kept = set_hour(at)
+
     ! what the Moon and the Sun raise, and the lines of a laser operator's selection; an altimeter operator's may be major_lines()
-    call accepted('solid_tide', solid_tide(degree, c, s, moon, sun, love, at, all_lines(), named))
+    call accepted('solid_tide', solid_tide(degree, c, s, moon, sun, love, kept, all_lines(), named))
     call added('solid tide')
     print '(a, i0)', 'lines named ', named
     call accepted('own_lines', own_lines(degree, c, s, lines, at))
@@ -53,6 +57,11 @@ program epoch
     print '(i0, a, 6(1x, i0))', number, ' is', n
     call accepted('find_line', find_line(number, index, first, second))
     print '(a, i0, a, i0, 1x, i0)', 'line ', index, ' amplitudes ', first, second
+    print '(a, i0, a, i0, a)', 'cosine ', kept%cosines(index + 1), ' sine ', kept%sines(index + 1), ' at this hour'
+    kept = move_hour(start_hour(), argument_s, 2**30, answer)
+    call accepted('move_hour', answer)
+    print '(a, i0, a, i0, a)', 'cosine ', kept%cosines(index + 1), ' sine ', kept%sines(index + 1), &
+        ' from the start, s moved by a quarter turn'
     answer = find_line(265555, index, first, second)
     print '(2a)', '265555: ', words(answer)
 

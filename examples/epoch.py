@@ -22,7 +22,6 @@ def main():
     with open(sys.argv[1], 'rb') as file:
         sheet = file.read()
     words = sys.stdin.read().split()
-    # a number that is no phase is refused here by OverflowError, in the call
     phases = unit.Phases(*map(int, words[:6]))
     moon, sun = (unit.Body(unit.RECTANGULAR, *map(float, words[at:at + 5])) for at in (6, 11))
     lines = [unit.OwnLine(*map(int, words[at:at + 8])) for at in range(17, 17 + 8 * int(words[16]), 8)]
@@ -36,10 +35,13 @@ def main():
     # the solid tide wants a zero-tide C20: a tide-free one, made with this Love model's k20, is moved once, before the first epoch
     print('C20 zero-tide', unit.move_c20(-484165000000000, unit.TIDE_FREE, unit.ZERO_TIDE, love))
 
+    # made once for the epoch, and used for any number of fields; a number that is no phase raises OverflowError here
+    hour = unit.set_hour(phases)
+
     c, s = [0] * len(PLACES), [0] * len(PLACES)
     for name, call in (
             # what the Moon and the Sun raise, and the lines of a laser operator's selection; an altimeter operator's may be unit.major_lines()
-            ('solid tide', lambda: unit.solid_tide(DEGREE, c, s, moon, sun, love, phases, unit.all_lines())),
+            ('solid tide', lambda: unit.solid_tide(DEGREE, c, s, moon, sun, love, hour, unit.all_lines())),
             ('own lines', lambda: unit.own_lines(DEGREE, c, s, lines, phases)),
             ('pole tide', lambda: unit.pole_tide(DEGREE, c, s, xp, yp, love)),
             ('ocean tide', lambda: unit.ocean_tide(DEGREE, c, s, sheet, phases, unit.CENTRE_OF_MASS))):
@@ -55,6 +57,9 @@ def main():
     print(number, 'is', *multipliers)
     line = unit.find_line(number)
     print(f'line {line.index} amplitudes {line.first} {line.second}')
+    print(f'cosine {hour.cosines[line.index]} sine {hour.sines[line.index]} at this hour')
+    hour = unit.move_hour(unit.start_hour(), unit.S, 1 << 30)
+    print(f'cosine {hour.cosines[line.index]} sine {hour.sines[line.index]} from the start, s moved by a quarter turn')
     try:
         unit.find_line(265555)
     except unit.Refused as refused:

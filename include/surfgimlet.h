@@ -81,7 +81,7 @@ static inline const char *surfgimlet_words(uint32_t answer)
     case SURFGIMLET_RECORD_VALUE: return "an own line has a multiplier outside -13..13, a first one not 0, 1 or 2, or an amplitude beyond 100,000";
     case SURFGIMLET_SELECTION_VALUE: return "the selection has a bit above 48, which stands for no line";
     case SURFGIMLET_POLE_OFFSET: return "a pole offset is outside -1,000,000..1,000,000 micro-arcseconds";
-    case SURFGIMLET_NO_SUCH_CHOICE: return "a choice, a body's kind or an argument's number is none of its numbers";
+    case SURFGIMLET_NO_SUCH_CHOICE: return "a choice, a body's kind or an argument is none of its numbers";
     default: return "no answer of this unit";
     }
 }

@@ -2,10 +2,13 @@
 PYTHONPATH names the folder share/surfgimlet of an installed unit."""
 import sys
 from array import array
+from ctypes import ArgumentError
 
 import surfgimlet as unit
 
 ZERO = unit.Phases(0, 0, 0, 0, 0, 0)
+DAY = unit.Phases(327043742, 329517021, 656638906, 3117674196, 3812369497, 3376471194)
+START = unit.start_hour()
 LINE = unit.OwnLine(1, 1, 0, 0, 0, 0, 3, 5)
 MOON = unit.rectangular(0.0123, 3e8, -2e8, 1e8)
 SUN = unit.rectangular(332946, 1e11, 1.1e11, 3e10)
@@ -22,7 +25,7 @@ def raised(call, *given):
     except unit.Refused as refused:
         assert unit.WORDS[refused.number] in str(refused)
         return refused.number
-    except (OverflowError, TypeError, ValueError) as other:
+    except (OverflowError, TypeError, ValueError, ArgumentError) as other:
         return type(other)
 
 
@@ -35,12 +38,41 @@ def field(value=0):
     return [value] * 15, [value] * 15
 
 
-def solid(c, s, moon=MOON, sun=SUN, love=unit.ANELASTIC, phases=ZERO, selection=1):
+def solid(c, s, moon=MOON, sun=SUN, love=unit.ANELASTIC, hour=START, selection=1):
     """The solid tide on a field of degree 4."""
-    return raised(unit.solid_tide, 4, c, s, moon, sun, love, phases, selection)
+    return raised(unit.solid_tide, 4, c, s, moon, sun, love, hour, selection)
+
+
+def hours():
+    """Start, set and move; what is refused and what the calls cannot hold; and what is written by hand."""
+    expect('the start', (bytes(START), START.cosines[:], START.sines[:]), (bytes(unit.set_hour(ZERO)), [2 ** 30] * 49, [0] * 49))
+    day, moved = unit.set_hour(DAY), START
+    for argument, phase in zip((unit.TAU, unit.S, unit.H, unit.P, unit.NP, unit.PS), DAY):
+        moved = unit.move_hour(moved, argument, phase - (phase >> 31 << 32))
+    expect('the hour moved to', bytes(moved), bytes(day))
+    expect('its phases', [getattr(day.phases, name) for name in DAY._fields], list(DAY))
+    for amount in (2 ** 31 - 1, -2 ** 31, 1):
+        moved = unit.move_hour(moved, unit.NP, amount)
+    expect('the hour moved back', bytes(moved), bytes(day))
+    expect('a set of six phases', bytes(unit.set_hour(list(DAY))), bytes(day))
+    expect('an argument 6', raised(unit.move_hour, day, 6, 1), 100)
+    expect('an argument below 0', raised(unit.move_hour, day, -1, 1), OverflowError)
+    expect('an amount of 2^31', raised(unit.move_hour, day, unit.S, 2 ** 31), OverflowError)
+    expect('an amount below -2^31', raised(unit.move_hour, day, unit.S, -2 ** 31 - 1), OverflowError)
+    expect('half a unit', raised(unit.move_hour, day, unit.S, 0.5), TypeError)
+    expect('a phase below 0', raised(unit.set_hour, ZERO._replace(np=-1)), OverflowError)
+    expect('a phase of a turn', raised(unit.set_hour, ZERO._replace(ps=2 ** 32)), OverflowError)
+    expect('the hour given', bytes(day), bytes(unit.set_hour(DAY)))
+    day.cosines[15] = -2 ** 31
+    c, s = field()
+    expect('what is written by hand', (solid(c, s, hour=day, selection=1 << 15), s[4]), (1, BODIES[1][4] - 942000))
+    kept = unit.move_hour(day, unit.PS, 1)
+    expect('a line without the argument', kept.cosines[15], -2 ** 31)
+    expect('one with it', kept.cosines[10], unit.set_hour(DAY._replace(ps=DAY.ps + 1)).cosines[10])
 
 
 def main():
+    hours()
     for kind in (list, lambda entries: array('q', entries)):
         c, s = map(kind, field())
         expect('no lines', solid(c, s, selection=0), 0)
@@ -69,8 +101,7 @@ def main():
         expect('a heavy Moon', solid(c, s, moon=unit.rectangular(1e6, 6e7, 0.0, 8e7)), 6)
         expect('a Love model 2', solid(c, s, love=2), 100)
         expect('a Sun of kind 2', solid(c, s, sun=SUN._replace(kind=2)), 100)
-        expect('a phase below 0', solid(c, s, phases=ZERO._replace(np=-1)), OverflowError)
-        expect('a phase of a turn', solid(c, s, phases=ZERO._replace(ps=2 ** 32)), OverflowError)
+        expect('phases in place of an hour', solid(c, s, hour=ZERO), ArgumentError)
         expect('bit 49', solid(c, s, selection=1 << 49), 14)
         expect('bit 49 before the Moon', solid(c, s, moon=MOON._replace(x=0.0), selection=1 << 49), 14)
         expect('a selection below 0', solid(c, s, selection=-1), OverflowError)

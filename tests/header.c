@@ -1,5 +1,6 @@
 /* What include/surfgimlet.h promises of the ends of its ranges: compiled as C99, C++98 and C++17 and run by tests/header.sh. */
 #include <stdio.h>
+#include <string.h>
 #include "surfgimlet.h"
 
 static int faults = 0;
@@ -35,11 +36,50 @@ static size_t printed(surfgimlet_own_line *lines)
 static const surfgimlet_body moon = {SURFGIMLET_DIRECTION, 0.0123, 1, 0, 0, 3.8e8}, sun = {SURFGIMLET_DIRECTION, 332946, 0, 1, 0, 1.5e11};
 static const surfgimlet_body north = {SURFGIMLET_DIRECTION, 0.001, 0, 0.96, 0.28, 3.8e8};
 
-/* the solid tide on a field of degree 4 */
+/* the solid tide on a field of degree 4, at the hour of these phases */
 static uint32_t solid(int64_t *c, int64_t *s, surfgimlet_body of_moon, surfgimlet_body of_sun, uint32_t love, surfgimlet_phases at,
                       uint64_t selection, uint32_t *lines)
 {
-    return surfgimlet_solid_tide(4, c, 15, s, 15, of_moon, of_sun, love, at, selection, lines);
+    return surfgimlet_solid_tide(4, c, 15, s, 15, of_moon, of_sun, love, surfgimlet_set_hour(at), selection, lines);
+}
+
+static uint32_t same(const surfgimlet_hour *one, const surfgimlet_hour *other) { return memcmp(one, other, sizeof *one) == 0 ? 0u : 1u; }
+
+/* hours: their layout, the start, a set, each move, the ends of its amount, an argument that is none; and what is written by hand */
+static void hours(surfgimlet_phases day)
+{
+    const uint32_t to[6] = {day.tau, day.s, day.h, day.p, day.np, day.ps};
+    const uint64_t k1 = (uint64_t)1 << 15;
+    surfgimlet_hour hour = surfgimlet_start_hour(), set = surfgimlet_set_hour(day), other;
+    int64_t c[15] = {0}, s[15] = {0};
+    uint32_t answer = 99, named = 99;
+    expect("an hour's size", (uint32_t)sizeof hour, 416u);
+    expect("its cosines", (uint32_t)offsetof(surfgimlet_hour, cosines), 24u);
+    expect("its sines", (uint32_t)offsetof(surfgimlet_hour, sines), 220u);
+    expect("the start", hour.phases.tau | hour.phases.s | hour.phases.h | hour.phases.p | hour.phases.np | hour.phases.ps, 0u);
+    for (int i = 0; i < 49; i++) expect("a line at the start", hour.cosines[i] == 1073741824 && hour.sines[i] == 0 ? 0u : 1u, 0u);
+    for (uint32_t i = 0; i < 6; i++) {
+        hour = surfgimlet_move_hour(hour, i, (int32_t)to[i], &answer);
+        expect("a move", answer, SURFGIMLET_ACCEPTED);
+    }
+    expect("the hour moved to", same(&hour, &set), 0u);
+    hour = surfgimlet_move_hour(hour, SURFGIMLET_H, 2147483647, &answer);
+    hour = surfgimlet_move_hour(hour, SURFGIMLET_H, -2147483647 - 1, &answer);
+    hour = surfgimlet_move_hour(hour, SURFGIMLET_H, 1, &answer);
+    expect("the hour moved back", same(&hour, &set), 0u);
+    other = surfgimlet_move_hour(hour, SURFGIMLET_PS + 1, 1, &answer);
+    expect("an argument 6", answer, SURFGIMLET_NO_SUCH_CHOICE);
+    expect("the hour kept", same(&other, &set), 0u);
+    hour.cosines[15] = -2147483647 - 1;
+    hour.sines[26] = 5;
+    hour.phases.s = 7;
+    other = surfgimlet_move_hour(hour, SURFGIMLET_S, 3, &answer);
+    expect("a move of what is written by hand", answer, SURFGIMLET_ACCEPTED);
+    expect("its phase", other.phases.s, 10u);
+    expect("a line without the argument", other.sines[26] == 5 && other.cosines[26] == set.cosines[26] ? 0u : 1u, 0u);
+    expect("one with it", other.cosines[15] == surfgimlet_set_hour(other.phases).cosines[15] ? 0u : 1u, 0u);
+    expect("what is written", surfgimlet_solid_tide(4, c, 15, s, 15, moon, sun, SURFGIMLET_ANELASTIC, hour, k1, &named), SURFGIMLET_ACCEPTED);
+    expect("its S21", s[4] == -942000 ? 0u : 1u, 0u);
 }
 
 int main(void)
@@ -54,9 +94,10 @@ int main(void)
     uint32_t named = 99;
 
     expect("the version", surfgimlet_version(), SURFGIMLET_VERSION);
+    hours(day);
 
     /* with length 0 a null pointer is welcome */
-    expect("no lists", surfgimlet_solid_tide(4, NULL, 0, NULL, 0, moon, sun, SURFGIMLET_ANELASTIC, at, 0, &named), SURFGIMLET_FIELD_SHAPE);
+    expect("no lists", surfgimlet_solid_tide(4, NULL, 0, NULL, 0, moon, sun, SURFGIMLET_ANELASTIC, surfgimlet_start_hour(), 0, &named), SURFGIMLET_FIELD_SHAPE);
     expect("no sheet", surfgimlet_ocean_tide(4, c, 15, s, 15, NULL, 0, at, SURFGIMLET_CENTRE_OF_MASS), SURFGIMLET_SHEET_LENGTH);
 
     expect("no lines", surfgimlet_own_lines(4, c, 15, s, 15, NULL, 0, at), SURFGIMLET_ACCEPTED);

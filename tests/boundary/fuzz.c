@@ -7,8 +7,9 @@
 #include "lent.h"
 #include "model.h"
 
-enum { SOLID_TIDE, OWN_LINES, POLE_TIDE, OCEAN_TIDE, MOVE_C20, MULTIPLIERS_OF, NUMBER_OF, FIND_LINE, CALLS };
-static const char *names[CALLS] = {"solid_tide", "own_lines", "pole_tide", "ocean_tide", "move_c20", "multipliers_of", "number_of", "find_line"};
+enum { SOLID_TIDE, OWN_LINES, POLE_TIDE, OCEAN_TIDE, MOVE_C20, MULTIPLIERS_OF, NUMBER_OF, FIND_LINE, START_HOUR, SET_HOUR, MOVE_HOUR, CALLS };
+static const char *names[CALLS] = {"solid_tide", "own_lines", "pole_tide", "ocean_tide", "move_c20", "multipliers_of", "number_of", "find_line", "start_hour",
+    "set_hour", "move_hour"};
 static long answered[CALLS][101], differences;
 
 /* what an answer alone does not tell of a solid tide */
@@ -54,7 +55,7 @@ static int64_t bad_entry(void)
 
 static uint32_t no_choice(uint32_t cases)
 {
-    static const uint32_t bad[] = {3, 4, 255, 256, 0x10000, 0x80000000, 0x80000001, 0xffffffff};
+    const uint32_t bad[] = {cases + 1, cases + 2, 255, 256, 0x10000, 0x80000000, 0x80000001, 0xffffffff};
     return one_in(2) ? cases : bad[below(8)];
 }
 
@@ -213,10 +214,10 @@ static uint32_t phase_of_a_tie(void)
 }
 
 /* S22 or C22 at a half of either sign, by that line alone: its phase is 2 tau - s + p */
-static void to_a_tie_of_lines(surfgimlet_phases *f, uint64_t *chosen)
+static void to_a_tie_of_lines(surfgimlet_hour *hour, uint64_t *chosen)
 {
     const surfgimlet_phases at = {0, 0u - (phase_of_a_tie() + ((uint32_t)below(4) << 30)), 0, 0, 0, 0};
-    *f = at;
+    *hour = surfgimlet_set_hour(at);
     *chosen = UINT64_C(1) << 47;
 }
 
@@ -404,6 +405,79 @@ static void expect(int call, uint32_t answer, uint32_t told, int as_told)
         printf("%s: answered %" PRIu32 ", the model %" PRIu32 "%s\n", names[call], answer, told, as_told ? "" : ", and an entry, a result or a guard differs");
 }
 
+/* any 32 bits, half of them an end of the range, a quarter turn or about zero */
+static int32_t signed_32(void)
+{
+    static const int32_t ends[] = {INT32_MIN, INT32_MIN + 1, INT32_MAX, INT32_MAX - 1, 1 << 30, -(1 << 30), 0, 1, -1};
+    return one_in(2) ? ends[below(9)] : (int32_t)any();
+}
+
+static surfgimlet_hour start_hour(void)
+{
+    results got = fresh(), told = fresh();
+    got.hour = surfgimlet_start_hour();
+    told.hour = model_start_hour();
+    expect(START_HOUR, 0, 0, same_results(&got, &told));
+    return got.hour;
+}
+
+static surfgimlet_hour set_hour(void)
+{
+    results got = fresh(), told = fresh();
+    surfgimlet_phases f = phases();
+    got.hour = surfgimlet_set_hour(f);
+    told.hour = model_set_hour(f);
+    expect(SET_HOUR, 0, 0, same_results(&got, &told));
+    return got.hour;
+}
+
+static surfgimlet_hour move_hour(surfgimlet_hour hour)
+{
+    results got = fresh(), told = fresh();
+    const surfgimlet_hour given = hour;
+    uint32_t argument = choice(6);
+    int32_t amount = signed_32();
+    got.hour = surfgimlet_move_hour(hour, argument, amount, &got.answer);
+    told.hour = model_move_hour(given, argument, amount, &told.answer);
+    expect(MOVE_HOUR, got.answer, told.answer, same_results(&got, &told) && !memcmp(&hour, &given, sizeof hour));
+    return got.hour;
+}
+
+/* from the start by set and move, in any order: the record of its phases */
+static surfgimlet_hour reached(void)
+{
+    surfgimlet_hour hour = start_hour(), afresh;
+    for (uint64_t left = below(6); left > 0; left--) hour = one_in(5) ? set_hour() : move_hour(hour);
+    afresh = model_set_hour(hour.phases);
+    if (memcmp(&hour, &afresh, sizeof hour)) { differences++; puts("an hour that was reached is not that of its phases"); }
+    return hour;
+}
+
+/* written by hand: any values, one throughout, those of the largest sums, eighths, whose sums are often halves, or the phases' own but for a few */
+static surfgimlet_hour by_hand(void)
+{
+    surfgimlet_hour hour = model_set_hour(phases());
+    uint64_t how = below(5);
+    int32_t throughout = signed_32();
+    int up = one_in(2);
+    for (int i = 0; i < 49; i++) {
+        int32_t *cosine = &hour.cosines[i], *sine = &hour.sines[i], one = model_lines[i].one, two = model_lines[i].two;
+        switch (how) {
+        case 0: *cosine = signed_32(); *sine = signed_32(); break;
+        case 1: *cosine = *sine = throughout; break;
+        case 2:
+            *cosine = (one > 0) == up ? INT32_MAX : INT32_MIN;
+            *sine = ((two > 0) == (i < 26)) == up ? INT32_MAX : INT32_MIN;
+            break;
+        case 3: *cosine = ((int32_t)below(32) - 16) * (1 << 27); *sine = ((int32_t)below(32) - 16) * (1 << 27); break;
+        default: if (one_in(16)) *(one_in(2) ? cosine : sine) = signed_32();
+        }
+    }
+    return hour;
+}
+
+static surfgimlet_hour any_hour(void) { return one_in(3) ? by_hand() : one_in(3) ? reached() : set_hour(); }
+
 static int beyond(int64_t x) { return x < -LIMIT || x > LIMIT; }
 
 /* counts the events of a solid tide on c and s, which the model leaves as c2 and s2 */
@@ -474,15 +548,17 @@ static void over_field(int call)
         told = model_pole_tide(n, entries(&c2), c2.length, entries(&s2), s2.length, xp, yp, love);
     } else {
         surfgimlet_body moon = body(3.8e8, 0.0123), sun = body(1.5e11, 332946);
-        surfgimlet_phases f = phases();
+        surfgimlet_hour hour = any_hour(), given;
         uint32_t love = choice(2);
         uint64_t chosen = selection();
-        if (one_in(40)) to_a_tie_of_lines(&f, &chosen);
+        if (one_in(40)) to_a_tie_of_lines(&hour, &chosen);
+        given = hour;
         if (one_in(2)) to_a_half(&moon, &sun, love);
         if (one_in(10)) to_the_bound(&moon, &sun, love);
-        told = model_solid_tide(n, entries(&c2), c2.length, entries(&s2), s2.length, moon, sun, love, f, chosen, &as_told.lines);
+        told = model_solid_tide(n, entries(&c2), c2.length, entries(&s2), s2.length, moon, sun, love, given, chosen, &as_told.lines);
         meet(n, &c, &s, &c2, &s2, moon, sun, love, chosen, told);
-        answer = surfgimlet_solid_tide(n, or_null(&c), c.length, or_null(&s), s.length, moon, sun, love, f, chosen, &got.lines);
+        answer = surfgimlet_solid_tide(n, or_null(&c), c.length, or_null(&s), s.length, moon, sun, love, hour, chosen, &got.lines);
+        if (memcmp(&hour, &given, sizeof hour)) { differences++; puts("solid_tide: the hour is changed"); }
     }
     expect(call, answer, told, same(&c, &c2) && same(&s, &s2) && same_results(&got, &as_told));
 }
@@ -549,7 +625,7 @@ static void alone(int call)
 int main(int argc, char **argv)
 {
     static const int numbers[CALLS][12] = {{0, 1, 2, 3, 4, 5, 6, 14, 100, -1}, {0, 1, 2, 12, 13, -1}, {0, 1, 2, 15, 100, -1},
-        {0, 1, 2, 7, 8, 9, 100, -1}, {0, 2, 100, -1}, {0, 10, -1}, {0, 10, -1}, {0, 10, 11, -1}};
+        {0, 1, 2, 7, 8, 9, 100, -1}, {0, 2, 100, -1}, {0, 10, -1}, {0, 10, -1}, {0, 10, 11, -1}, {0, -1}, {0, -1}, {0, 100, -1}};
     long count = argc > 1 ? atol(argv[1]) : 1000000, missing = 0;
     if (surfgimlet_all_lines() != (UINT64_C(1) << 49) - 1 || surfgimlet_major_lines() != model_major_lines()) {
         differences++;
@@ -557,11 +633,12 @@ int main(int argc, char **argv)
     }
     waves(200000);
     for (long i = 0; i < count; i++) {
-        uint64_t pick = below(26);
+        uint64_t pick = below(28);
         if (pick < 8) over_field(OCEAN_TIDE);
         else if (pick < 15) over_field(SOLID_TIDE);
         else if (pick < 19) over_field(OWN_LINES);
         else if (pick < 21) over_field(POLE_TIDE);
+        else if (pick < 23) move_hour(one_in(2) ? by_hand() : reached());
         else alone(MOVE_C20 + (int)below(4));
     }
     for (int call = 0; call < CALLS; call++) {

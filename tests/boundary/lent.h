@@ -63,6 +63,10 @@ typedef struct {
     uint64_t g7;
     uint32_t lines;
     uint32_t g8;
+    uint32_t answer;
+    uint32_t g9;
+    surfgimlet_hour hour;
+    uint64_t g10;
 } results;
 
 static results fresh(void)

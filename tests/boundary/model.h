@@ -114,15 +114,56 @@ static int64_t model_sine(uint32_t phase)
 
 static int64_t model_cosine(uint32_t phase) { return model_sine(phase + (UINT32_C(1) << 30)); }
 
+/* ---- the hour */
+
+/* the lines that have an argument, worked out afresh: all of them where it is 6 */
+static void model_renew(surfgimlet_hour *hour, uint32_t argument)
+{
+    for (int i = 0; i < 49; i++) {
+        int32_t m[6] = {0};
+        uint32_t phase;
+        model_multipliers_of(model_lines[i].number, m);
+        if (argument < 6 && m[argument] == 0) continue;
+        phase = model_phase(m, hour->phases);
+        hour->cosines[i] = (int32_t)model_cosine(phase);
+        hour->sines[i] = (int32_t)model_sine(phase);
+    }
+}
+
+static surfgimlet_hour model_set_hour(surfgimlet_phases b)
+{
+    surfgimlet_hour hour;
+    hour.phases = b;
+    model_renew(&hour, 6);
+    return hour;
+}
+
+static surfgimlet_hour model_start_hour(void)
+{
+    const surfgimlet_phases zero = {0, 0, 0, 0, 0, 0};
+    return model_set_hour(zero);
+}
+
+static surfgimlet_hour model_move_hour(surfgimlet_hour hour, uint32_t argument, int32_t amount, uint32_t *answer)
+{
+    uint32_t *phase[6] = {&hour.phases.tau, &hour.phases.s, &hour.phases.h, &hour.phases.p, &hour.phases.np, &hour.phases.ps};
+    *answer = argument > 5 ? 100 : 0;
+    if (*answer) return hour;
+    *phase[argument] += (uint32_t)amount;
+    model_renew(&hour, argument);
+    return hour;
+}
+
 /* ---- lines, printed or an operator's own */
 
 /* five sums of counts times 2^30 */
 typedef struct { int64_t c20, c21, s21, c22, s22; } model_sums;
 
-/* a line of long period (0), diurnal (1) or semidiurnal (2), its amplitudes in 100 counts */
-static void model_line(model_sums *sums, int band, int64_t ip, int64_t op, uint32_t phase)
+/* a line of long period (0), diurnal (1) or semidiurnal (2), its amplitudes in 100 counts; its cosine and sine any 32-bit values */
+static void model_line(model_sums *sums, int band, int64_t ip, int64_t op, int64_t cosine, int64_t sine)
 {
-    int64_t sine = 100 * model_sine(phase), cosine = 100 * model_cosine(phase);
+    cosine *= 100;
+    sine *= 100;
     if (band == 0) {
         sums->c20 += ip * cosine - op * sine;
     } else if (band == 1) {
@@ -166,7 +207,8 @@ static uint32_t model_own_lines(uint32_t n, int64_t *c, size_t c_length, int64_t
     for (size_t i = 0; i < count; i++) {
         const surfgimlet_own_line *l = &lines[i];
         const int32_t m[6] = {l->tau, l->s, l->h, l->p, l->np, l->ps};
-        model_line(&sums, l->tau, l->ip, l->op, model_phase(m, b));
+        uint32_t phase = model_phase(m, b);
+        model_line(&sums, l->tau, l->ip, l->op, model_cosine(phase), model_sine(phase));
     }
     model_add_five(c, s, sums, OF_OWN_LINES);
     return 0;
@@ -303,20 +345,18 @@ static uint64_t model_major_lines(void)
     return chosen;
 }
 
-/* step two's counts at the five places; answers how many lines are named */
-static uint32_t model_step_two(int64_t *c, int64_t *s, uint32_t love, surfgimlet_phases b, uint64_t selection)
+/* step two's counts at the five places, over what the hour holds; answers how many lines are named */
+static uint32_t model_step_two(int64_t *c, int64_t *s, uint32_t love, const surfgimlet_hour *hour, uint64_t selection)
 {
     model_sums sums = {0, 0, 0, 0, 0};
     uint32_t count = 0;
     for (int i = 0; i < 49; i++) {
-        int64_t one = model_lines[i].one, two = model_lines[i].two;
-        int32_t m[6] = {0};
+        int64_t one = model_lines[i].one, two = model_lines[i].two, cosine = hour->cosines[i], sine = hour->sines[i];
         if (!(selection & UINT64_C(1) << i)) continue;
         count++;
-        model_multipliers_of(model_lines[i].number, m);
-        if (i < 26) model_line(&sums, 1, love ? two : one, 0, model_phase(m, b));
-        else if (i >= 47) model_line(&sums, 2, one, 0, model_phase(m, b));
-        else if (love) model_line(&sums, 0, one, two, model_phase(m, b));
+        if (i < 26) model_line(&sums, 1, love ? two : one, 0, cosine, sine);
+        else if (i >= 47) model_line(&sums, 2, one, 0, cosine, sine);
+        else if (love) model_line(&sums, 0, one, two, cosine, sine);
     }
     model_add_five(c, s, sums, OF_STEP_TWO);
     return count;
@@ -325,7 +365,7 @@ static uint32_t model_step_two(int64_t *c, int64_t *s, uint32_t love, surfgimlet
 /* ---- solid tide, the call: the sum of the two is added once */
 
 static uint32_t model_solid_tide(uint32_t n, int64_t *c, size_t c_length, int64_t *s, size_t s_length, surfgimlet_body moon,
-                                 surfgimlet_body sun, uint32_t love, surfgimlet_phases b, uint64_t selection, uint32_t *lines)
+                                 surfgimlet_body sun, uint32_t love, surfgimlet_hour hour, uint64_t selection, uint32_t *lines)
 {
     int64_t dc[13] = {0}, ds[13] = {0}; /* up to place (4,2) */
     uint32_t refusal;
@@ -333,7 +373,7 @@ static uint32_t model_solid_tide(uint32_t n, int64_t *c, size_t c_length, int64_
     if ((refusal = model_field(n, c, c_length, s, s_length))) return refusal;
     if (selection >= UINT64_C(1) << 49) return 14;
     if ((refusal = model_step_one(dc, ds, moon, sun, love))) return refusal;
-    *lines = model_step_two(dc, ds, love, b, selection);
+    *lines = model_step_two(dc, ds, love, &hour, selection);
     for (int i = 0; i < 13; i++) {
         c[i] += dc[i];
         s[i] += ds[i];

@@ -5,13 +5,14 @@
 #include "lent.h"
 #include "surfgimlet.h"
 
-#define LEAST 23000 /* cases, so that an input cut short is noticed */
+#define LEAST 28000 /* cases, so that an input cut short is noticed */
 
-enum { SOLID_TIDE, OWN_LINES, POLE_TIDE, OCEAN_TIDE, MOVE_C20, MULTIPLIERS_OF, NUMBER_OF, FIND_LINE, ALL_LINES, MAJOR_LINES, CALLS };
-static const char *names[CALLS] = {"solid_tide", "own_lines", "pole_tide", "ocean_tide", "move_c20", "multipliers_of", "number_of", "find_line", "all_lines",
-    "major_lines"};
+/* an hour is a call of its own: start, set and move, in any order */
+enum { SOLID_TIDE, OWN_LINES, POLE_TIDE, OCEAN_TIDE, MOVE_C20, MULTIPLIERS_OF, NUMBER_OF, FIND_LINE, HOUR, ALL_LINES, MAJOR_LINES, CALLS };
+static const char *names[CALLS] = {"solid_tide", "own_lines", "pole_tide", "ocean_tide", "move_c20", "multipliers_of", "number_of", "find_line", "hour",
+    "all_lines", "major_lines"};
 static const int numbers[CALLS][10] = {{0, 1, 2, 3, 4, 5, 6, 14, 100, -1}, {0, 1, 2, 12, 13, -1},
-    {0, 1, 2, 15, 100, -1}, {0, 1, 2, 7, 8, 9, 100, -1}, {0, 2, 100, -1}, {0, 10, -1}, {0, 10, -1}, {0, 10, 11, -1}, {0, -1}, {0, -1}};
+    {0, 1, 2, 15, 100, -1}, {0, 1, 2, 7, 8, 9, 100, -1}, {0, 2, 100, -1}, {0, 10, -1}, {0, 10, -1}, {0, 10, 11, -1}, {0, 100, -1}, {0, -1}, {0, -1}};
 static long answered[CALLS][101], cases, differences;
 
 static uint32_t n;
@@ -46,6 +47,35 @@ static surfgimlet_phases phases(void)
     b.tau = (uint32_t)word(); b.s = (uint32_t)word(); b.h = (uint32_t)word();
     b.p = (uint32_t)word(); b.np = (uint32_t)word(); b.ps = (uint32_t)word();
     return b;
+}
+
+static surfgimlet_hour record(void)
+{
+    surfgimlet_hour h;
+    h.phases = phases();
+    for (int i = 0; i < 49; i++) h.cosines[i] = (int32_t)word();
+    for (int i = 0; i < 49; i++) h.sines[i] = (int32_t)word();
+    return h;
+}
+
+/* from the start by steps: phases to set, an argument and the amount it is moved by, or a record written by hand; answer is the last step's */
+static surfgimlet_hour hour(uint32_t *answer)
+{
+    surfgimlet_hour h = surfgimlet_start_hour();
+    *answer = 0;
+    for (int64_t left = word(); left > 0; left--) {
+        int64_t step = word();
+        if (step == 1) {
+            const surfgimlet_hour given = h;
+            uint32_t argument = (uint32_t)word();
+            *answer = UINT32_MAX; /* which no call answers */
+            h = surfgimlet_move_hour(given, argument, (int32_t)word(), answer);
+        } else {
+            h = step == 0 ? surfgimlet_set_hour(phases()) : record();
+            *answer = 0;
+        }
+    }
+    return h;
 }
 
 static surfgimlet_body body(void)
@@ -117,8 +147,9 @@ static void over_field(int call)
     uint32_t choice = call == OWN_LINES ? 0 : (uint32_t)word(), number, answer;
     if (call == SOLID_TIDE) {
         surfgimlet_body moon = body(), sun = body();
-        surfgimlet_phases b = phases();
-        answer = surfgimlet_solid_tide(n, or_null(&c), c.length, or_null(&s), s.length, moon, sun, choice, b, bits(), &got.lines);
+        surfgimlet_hour h = hour(&answer);
+        got.hour = told.hour = h;
+        answer = surfgimlet_solid_tide(n, or_null(&c), c.length, or_null(&s), s.length, moon, sun, choice, got.hour, bits(), &got.lines);
     } else if (call == OWN_LINES) {
         surfgimlet_phases b;
         records(&lines);
@@ -138,6 +169,15 @@ static void over_field(int call)
     change(&told_c); change(&told_s);
     expect(call, answer, number, same(&c, &told_c) && same(&s, &told_s) && !memcmp(&lines, &kept, sizeof lines) && same_results(&got, &told));
     memcpy(&c, &told_c, sizeof c); memcpy(&s, &told_s, sizeof s);
+}
+
+static void an_hour(void)
+{
+    results got = fresh(), told = fresh();
+    got.hour = hour(&got.answer);
+    told.answer = (uint32_t)word();
+    told.hour = record();
+    expect(HOUR, got.answer, told.answer, same_results(&got, &told));
 }
 
 /* the two selections that are supplied */
@@ -192,6 +232,7 @@ int main(void)
         if (call == CALLS) { printf("values: no call is named %s\n", name); return 1; }
         if (call <= OCEAN_TIDE) over_field(call);
         else if (call <= FIND_LINE) alone(call);
+        else if (call == HOUR) an_hour();
         else profile(call);
     }
     for (int call = 0; call < CALLS; call++) {

@@ -53,7 +53,7 @@ module _ (c : tie.After-is-renewed Inv-loop μ-loop) where
   the-line : c .before .multipliers-by .result ≡ multipliersAt i
   the-line =
       let tables = head .before .before .printed-tables in
-      c .before .multipliers-by .ensures ∙ multipliers-read (tables .result .digits) i (c .before .before .loop-test .taken) (tables .ensures .0)
+      c .before .multipliers-by .ensures ∙ multipliers-read (tables .result .digits) i (omega arith) (tables .ensures .0)
 
   is : c .is-renewed .result ≡ isRenewed which (multipliersAt i)
   is = c .is-renewed .ensures ∙ ap (isRenewed which) the-line

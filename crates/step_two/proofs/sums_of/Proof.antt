@@ -42,7 +42,7 @@ printed-line-requires : tie.Need-printed-line-requires Inv-loop μ-loop
 printed-line-requires c κs =
     let test = c .before .before .before .before in
     let e = test .before .before .before .before .printed-tables .ensures in
-    (test .loop-test .taken, (e .1 .0, e .1 .1))
+    (omega arith, (e .1 .0, e .1 .1))
 
 -- a turn, once it is known whether the line is named
 module _ (t : tie.After-names Inv-loop μ-loop) where
