@@ -11,8 +11,8 @@
  *
  * Every call marked SURFGIMLET_ANSWER answers 0, or the number of a refusal: the first that applies in the order printed
  * at the call. A refused call changes nothing it was lent, so an answer that nobody looks at may be a field without its
- * tide: compilers that can warn of it do. Those that make an hour are marked too, for one that nobody takes is lost; the one
- * of them that can refuse leaves its number in *answer.
+ * tide: compilers that can warn of it do. The three calls that answer an hour are marked too, since one that nobody takes is
+ * lost.
  *
  * No call allocates, locks, keeps anything between calls, writes a file or fails to return; calls on different memory may
  * run at the same time.
@@ -152,10 +152,10 @@ SURFGIMLET_ANSWER surfgimlet_hour surfgimlet_set_hour(surfgimlet_phases phases);
 
 /* One phase moved by a signed amount, wrapping round the turn of 2^32: hour = surfgimlet_move_hour(hour, SURFGIMLET_S, ..).
  * Given: an hour; which argument; the amount.
- * Answered: the hour moved; in *answer 0, or 100. Where it is 100 the hour comes back as it was given.
- * The lines that have the argument get the cosines and sines of the new phases, the others keep theirs, whose phase has not
- * changed: so a move costs less than a set, little where few lines have the argument. In an hour written by hand, the lines
- * without the argument keep what was written.
+ * Answered: the hour moved; in *answer 0, or 100, and then the hour as it was given. Look at it: no compiler warns here.
+ * The lines that have the argument, their multiplier of it not being 0, get the cosines and sines of the new phases; the
+ * others, whose phase has not changed, keep theirs. So a move costs less than a set, little where few lines have the
+ * argument; and in an hour written by hand the lines without it keep what was written.
  * Refused: 100. */
 SURFGIMLET_ANSWER surfgimlet_hour surfgimlet_move_hour(surfgimlet_hour hour, uint32_t argument, int32_t amount, uint32_t *answer);
 

@@ -32,7 +32,7 @@ def in_python():
 def orders():
     """(call, README's order, the header's) of each call; the header has 100 first where a call takes a choice."""
     table = dict(re.findall(r'^\| `(\w+)` \|.*\| ([^|]*) \|$', read('README.md').partition('| Call | Given |')[2].partition('\n\n')[0], re.M))
-    header = dict((call, order) for order, call in re.findall(r'Refused: ([^*]*?) \*/\nSURFGIMLET_ANSWER uint32_t surfgimlet_(\w+)', read('include/surfgimlet.h')))
+    header = dict((call, order) for order, call in re.findall(r'Refused: ([^*]*?) \*/\nSURFGIMLET_ANSWER \w+ surfgimlet_(\w+)', read('include/surfgimlet.h')))
     for call in sorted(table.keys() | header.keys()):
         in_table, in_header = (re.findall(r'\d+', order.get(call, '')) for order in (table, header))
         yield call, in_table, in_header[1:] if in_header[:1] == ['100'] else in_header

@@ -9,8 +9,8 @@ use native.Mathlib.Omega.{arith}
 use lib.Dec.{T, ltb, leb, eqb}
 use lib.IntN.{ℤ, pos, natAbs}
 use lib.ListN.{length, getD}
-use mir.Syntax.{w64}
-use mir.Val.{toZ, ofZ}
+use mir.Syntax.{w16, w64}
+use mir.Val.{SFits, toZ, ofZ}
 use mir.Facts.{toZ-ofZ}
 use Rattle.bands.specs.declared.Band.{Band}
 use Rattle.bands.specs.declared.Band.the-variants.{Diurnal, LongPeriod, Semidiurnal}
@@ -79,20 +79,35 @@ pub printed-small : (love : LoveModel) (i : ℕ) → (natAbs (printedLine love i
 unfolding printedLine
 printed-small love i = model-small (bandAt i) love (lineAt i .first) (lineAt i .second) (amplitudes-small i .0) (amplitudes-small i .1)
 
--- ---- the columns as the code has them
-module _ (f : Printed → ℤ) (most : (i : ℕ) → natAbs (f (lineAt i)) ≤ 4720) (l : List ℤ) (i : ℕ) (h : i < 49) where
-  amplitude-read : l ≡ map f printed → toZ w64 (ofZ w64 (getD l i (pos 0))) ≡ f (lineAt i)
-  amplitude-read e =
-      ap (λ (z : ℤ). toZ w64 (ofZ w64 z)) (ap (λ (m : List ℤ). getD m i (pos 0)) e ∙ column f i (pos 0) h)
-      ∙ toZ-ofZ (fits-abs w64 (f (lineAt i)) (omega (arith, most i)))
+-- ---- the columns as the code has them, in 16 bits
+module _ (f : Printed → ℤ) (most : (i : ℕ) → natAbs (f (lineAt i)) ≤ 4720) (l : List ℤ) (i : ℕ) (h : i < 49) (e : l ≡ map f printed) where
+  in-16-bits : toZ w16 (ofZ w16 (getD l i (pos 0))) ≡ f (lineAt i)
+  in-16-bits =
+      ap (λ (z : ℤ). toZ w16 (ofZ w16 z)) (ap (λ (m : List ℤ). getD m i (pos 0)) e ∙ column f i (pos 0) h)
+      ∙ toZ-ofZ (fits-abs w16 (f (lineAt i)) (omega (arith, most i)))
 
-pub first-read : (l : List ℤ) (i : ℕ) → i < 49 → l ≡ firsts → toZ w64 (ofZ w64 (getD l i (pos 0))) ≡ lineAt i .first
-unfolding firsts
-first-read = amplitude-read (λ (l : Printed). l .first) (λ i. amplitudes-small i .0)
+  amplitude-fits : SFits w64 (toZ w16 (ofZ w16 (getD l i (pos 0))))
+  amplitude-fits = rw in-16-bits (fits-abs w64 (f (lineAt i)) (omega (arith, most i)))
 
-pub second-read : (l : List ℤ) (i : ℕ) → i < 49 → l ≡ seconds → toZ w64 (ofZ w64 (getD l i (pos 0))) ≡ lineAt i .second
-unfolding seconds
-second-read = amplitude-read (λ (l : Printed). l .second) (λ i. amplitudes-small i .1)
+  amplitude-read : toZ w64 (ofZ w64 (toZ w16 (ofZ w16 (getD l i (pos 0))))) ≡ f (lineAt i)
+  amplitude-read = toZ-ofZ amplitude-fits ∙ in-16-bits
+
+module _ (l : List ℤ) (i : ℕ) (h : i < 49) where
+  pub first-fits : l ≡ firsts → SFits w64 (toZ w16 (ofZ w16 (getD l i (pos 0))))
+  unfolding firsts
+  first-fits = amplitude-fits (λ (l : Printed). l .first) (λ i. amplitudes-small i .0) l i h
+
+  pub first-read : l ≡ firsts → toZ w64 (ofZ w64 (toZ w16 (ofZ w16 (getD l i (pos 0))))) ≡ lineAt i .first
+  unfolding firsts
+  first-read = amplitude-read (λ (l : Printed). l .first) (λ i. amplitudes-small i .0) l i h
+
+  pub second-fits : l ≡ seconds → SFits w64 (toZ w16 (ofZ w16 (getD l i (pos 0))))
+  unfolding seconds
+  second-fits = amplitude-fits (λ (l : Printed). l .second) (λ i. amplitudes-small i .1) l i h
+
+  pub second-read : l ≡ seconds → toZ w64 (ofZ w64 (toZ w16 (ofZ w16 (getD l i (pos 0))))) ≡ lineAt i .second
+  unfolding seconds
+  second-read = amplitude-read (λ (l : Printed). l .second) (λ i. amplitudes-small i .1) l i h
 
 -- what the hexadecimal digits of a printed number write is what its decimal ones do
 numbers-agree : map (λ (l : Printed). numberIn (digitsOf (l .number))) printed ≡ map (λ (l : Printed). l .number) printed

@@ -64,7 +64,7 @@ const DIGITS: [u32; 49] = [
 ];
 
 // The two amplitudes, in tenths of 10^-12: elastic and anelastic, ip and op, a semidiurnal one twice.
-const FIRST: [i64; 49] = [
+const FIRST: [i16; 49] = [
     -1,
     -7,
     -1,
@@ -116,7 +116,7 @@ const FIRST: [i64; 49] = [
     -12,
 ];
 
-const SECOND: [i64; 49] = [
+const SECOND: [i16; 49] = [
     -1,
     -7,
     -1,
@@ -171,8 +171,8 @@ const SECOND: [i64; 49] = [
 // The printed tables. A call takes them once and looks its lines up there.
 pub struct Tables {
     pub digits: [u32; 49],
-    pub first: [i64; 49],
-    pub second: [i64; 49],
+    pub first: [i16; 49],
+    pub second: [i16; 49],
 }
 
 pub fn printed_tables() -> Tables
@@ -252,11 +252,11 @@ fn line_in(band: Band, love: LoveModel, first: i64, second: i64) -> Line
 }
 
 // Printed line i in a Love model.
-pub fn printed_line(first: &[i64; 49], second: &[i64; 49], love: LoveModel, i: usize) -> Line
+pub fn printed_line(first: &[i16; 49], second: &[i16; 49], love: LoveModel, i: usize) -> Line
     requires { ⌜ (i < 49) × ((now first ≡ firsts) × (now second ≡ seconds)) ⌝ }
     ensures { λ r. ⌜ r ≡ printedLine love i ⌝ }
 {
-    line_in(band_at(i), love, first[i], second[i])
+    line_in(band_at(i), love, first[i] as i64, second[i] as i64)
 }
 
 pub enum Sought {
@@ -286,8 +286,8 @@ pub fn find_line(number: u32) -> Sought
         if number_in(digits[i]) == number {
             return Sought::Line {
                 index: i,
-                first: first[i],
-                second: second[i],
+                first: first[i] as i64,
+                second: second[i] as i64,
             };
         }
         i += 1;

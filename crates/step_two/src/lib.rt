@@ -1,24 +1,48 @@
 // Step two of the solid tide (001, Tables 6.2; document 01, "Step two"; document 02, T-04 and T-08): what the printed lines that a selection names add
 // to degree two, over the waves that an hour record holds.
 ghost use mathlib.Core.Path.{_≡_};
-ghost use Rattle.bands.specs.Bands.{sumOf};
+ghost use Prim.Native.Nat.{_+_, _<_};
 ghost use Rattle.bands.specs.Inner.{sumsOf, Bounded, Small};
-ghost use Rattle.hour.specs.Hour.{kept};
-ghost use Rattle.lines.specs.Lines.{printedLine};
-ghost use Rattle.selection.specs.Selection.{selected};
-ghost use Rattle.step_two.specs.StepTwo.{keptCorrections};
+ghost use Rattle.lines.specs.Inner.{firsts, seconds};
+ghost use Rattle.step_two.specs.Inner.{Running};
+ghost use Rattle.step_two.specs.StepTwo.{keptSum, keptCorrections};
 use bands::Corrections;
 use bands::Sums;
 use choices::LoveModel;
 use hour::Hour;
 
-// The five sums of the printed lines that a selection names, over given waves. Its bits above 48 stand for nothing.
-fn sums_of(love: LoveModel, selection: u64, cosines: &[i32; 49], sines: &[i32; 49]) -> Sums
-    ensures { λ r. ⌜ (r ≡ sumsOf (sumOf (selected selection (printedLine love)) (kept (now (cosines .entry))) (kept (now (sines .entry))) 49)) × Bounded r ⌝ }
+// The five sums with those of line i added, if a selection names it. Bits above 48 stand for nothing.
+fn with_printed(
+    sums: Sums,
+    first: &[i16; 49],
+    second: &[i16; 49],
+    cosines: &[i32; 49],
+    sines: &[i32; 49],
+    love: LoveModel,
+    selection: u64,
+    i: usize,
+) -> Sums
+    requires { ⌜ (i < 49) × ((now first ≡ firsts) × ((now second ≡ seconds) × Running love selection (now cosines) (now sines) i sums)) ⌝ }
+    ensures { λ r. ⌜ Running love selection (now (cosines .entry)) (now (sines .entry)) (i + 1) r ⌝ }
+{
+    if selection::names(selection, i) {
+        let line = lines::printed_line(first, second, love, i);
+        bands::with_line(sums, line, cosines[i] as i64, sines[i] as i64)
+    } else {
+        sums
+    }
+}
+
+// The five sums of the lines that a selection names, over the waves that a record holds. A loop goes through each band, whose rule the compiler then
+// chooses once.
+fn sums_of(hour: Hour, love: LoveModel, selection: u64) -> Sums
+    ensures { λ r. ⌜ (r ≡ sumsOf (keptSum hour love selection)) × Bounded r ⌝ }
 {
     let tables = lines::printed_tables();
     let first = tables.first;
     let second = tables.second;
+    let cosines = hour.cosines;
+    let sines = hour.sines;
     let mut sums = Sums {
         c20: 0,
         c21: 0,
@@ -27,11 +51,16 @@ fn sums_of(love: LoveModel, selection: u64, cosines: &[i32; 49], sines: &[i32; 4
         s22: 0,
     };
     let mut i = 0;
+    while i < 26 {
+        sums = with_printed(sums, &first, &second, &cosines, &sines, love, selection, i);
+        i += 1;
+    }
+    while i < 47 {
+        sums = with_printed(sums, &first, &second, &cosines, &sines, love, selection, i);
+        i += 1;
+    }
     while i < 49 {
-        if selection::names(selection, i) {
-            let line = lines::printed_line(&first, &second, love, i);
-            sums = bands::with_line(sums, line, cosines[i] as i64, sines[i] as i64);
-        }
+        sums = with_printed(sums, &first, &second, &cosines, &sines, love, selection, i);
         i += 1;
     }
     sums
@@ -41,7 +70,5 @@ fn sums_of(love: LoveModel, selection: u64, cosines: &[i32; 49], sines: &[i32; 4
 pub fn corrections_of(hour: Hour, love: LoveModel, selection: u64) -> Corrections
     ensures { λ r. ⌜ (r ≡ keptCorrections hour love selection) × Small r ⌝ }
 {
-    let cosines = hour.cosines;
-    let sines = hour.sines;
-    bands::rounded_of(sums_of(love, selection, &cosines, &sines))
+    bands::rounded_of(sums_of(hour, love, selection))
 }

@@ -6,7 +6,7 @@ use Prim.Native.Nat.{_-_, _≤_}
 use lib.ListN.{drop, getD}
 use Rattle.lines.specs.Lines.{printed, lineAt, soughtFrom, findLine}
 use Rattle.lines.proofs.Search.{found, passed, none-left}
-use Rattle.lines.proofs.Table.{number-read, first-read, second-read}
+use Rattle.lines.proofs.Table.{number-read, first-fits, first-read, second-fits, second-read}
 use Rattle.lines.proofs.find_line.Statement.{statement}
 use Rattle.lines.proofs.find_line.Tie as tie
 
@@ -58,11 +58,21 @@ mul-t16 c = search needs
 array-copy-out-t19 : tie.Need-array-copy-out-t19 Inv-loop μ-loop
 array-copy-out-t19 c = search needs
 
-mul-t20 : tie.Need-mul-t20 Inv-loop μ-loop
-mul-t20 c = search needs
+cast-t20 : tie.Need-cast-t20 Inv-loop μ-loop
+cast-t20 c =
+    let k = c .before .before in
+    first-fits _ (head k .loop .i) (k .before .loop-test .taken) (tables k .printed-tables .ensures .1 .0)
 
-array-copy-out-t23 : tie.Need-array-copy-out-t23 Inv-loop μ-loop
-array-copy-out-t23 c = search needs
+mul-t21 : tie.Need-mul-t21 Inv-loop μ-loop
+mul-t21 c = search needs
+
+array-copy-out-t24 : tie.Need-array-copy-out-t24 Inv-loop μ-loop
+array-copy-out-t24 c = search needs
+
+cast-t25 : tie.Need-cast-t25 Inv-loop μ-loop
+cast-t25 c =
+    let k = c .before .before .before in
+    second-fits _ (head k .loop .i) (k .before .loop-test .taken) (tables k .printed-tables .ensures .1 .1)
 
 returns-2 : tie.Need-returns-2 Inv-loop μ-loop
 returns-2 c =
@@ -102,8 +112,10 @@ find-line-spec =
     number-in-requires
     mul-t16
     array-copy-out-t19
-    mul-t20
-    array-copy-out-t23
+    cast-t20
+    mul-t21
+    array-copy-out-t24
+    cast-t25
     returns-2
     add-i
     loop-less
