@@ -9,15 +9,15 @@ use native.Mathlib.Omega.{arith}
 use lib.Dec.{ltb}
 use lib.IntN.{ℤ, pos, negsuc, natAbs, _+ℤ_}
 use Rattle.arguments.specs.declared.Argument.{Argument}
+use Rattle.arguments.specs.declared.Multipliers.{Multipliers}
 use Rattle.arguments.specs.declared.Phases.{Phases}
 use Rattle.arguments.specs.Phase.{modulo, multiplierOf, movedPhases}
 use Rattle.arguments.proofs.Moved.{InATurn, moved-twice, moved-by-nothing, phase-unmoved}
 use Rattle.lines.specs.Lines.{multipliersAt, linePhase}
 use Rattle.wave.specs.Wave.{sin, cos}
-use Rattle.whole.specs.Listed.{listed}
 use Rattle.whole.proofs.Listed.{at-listed, listed-same}
 use Rattle.hour.specs.declared.Hour.{Hour}
-use Rattle.hour.specs.Hour.{kept, hourAt, startHour, hasArgument, movedHour, HourCall, SetHour, MoveHour, called, after, reached, Fresh}
+use Rattle.hour.specs.Hour.{kept, hourAt, startHour, hasArgument, renewed, movedHour, HourCall, SetHour, MoveHour, called, after, reached, Fresh}
 
 -- ---- what a record that is fresh holds
 module _ (hour : Hour) (fresh : Fresh hour) (i : ℕ) (h : i < 49) where
@@ -82,16 +82,13 @@ reached-fresh calls = after-fresh startHour calls start-fresh
 
 -- ---- moves
 -- of any record: a line with the argument is renewed at the last phases, and a line without it stays
-module _ (argument : Argument) (W : ℕ → ℤ) (l : List ℤ) where
-  abbrev held : Phases → ℕ → ℤ
-  held phases i = cond (hasArgument argument (multipliersAt i)) (W (linePhase phases i)) (kept l i)
-
-  renewed-again : (p q : Phases) → listed (λ i. cond (hasArgument argument (multipliersAt i)) (W (linePhase q i)) (kept (listed (held p) 49) i)) 49 ≡ listed (held q) 49
-  renewed-again p q = listed-same _ (held q) 49 (λ i h. by-test (hasArgument argument (multipliersAt i)) i (at-listed (held p) 49 i (pos 0) h))
-    where
-      by-test : (b : Bool) (i : ℕ) {x : ℤ} → x ≡ cond b (W (linePhase p i)) (kept l i) → cond b (W (linePhase q i)) x ≡ cond b (W (linePhase q i)) (kept l i)
-      by-test true i e = refl
-      by-test false i e = e
+renewed-again : (chosen : Multipliers → Bool) (W : ℕ → ℤ) (held : List ℤ) (p q : Phases) → renewed chosen W q (renewed chosen W p held) ≡ renewed chosen W q held
+renewed-again chosen W held p q =
+    listed-same _ _ 49 (λ i h. by-test (chosen (multipliersAt i)) i (at-listed (λ j. cond (chosen (multipliersAt j)) (W (linePhase p j)) (kept held j)) 49 i (pos 0) h))
+  where
+    by-test : (b : Bool) (i : ℕ) {x : ℤ} → x ≡ cond b (W (linePhase p i)) (kept held i) → cond b (W (linePhase q i)) x ≡ cond b (W (linePhase q i)) (kept held i)
+    by-test true i e = refl
+    by-test false i e = e
 
 pub moves-add : (hour : Hour) (argument : Argument) (a b d : ℤ) → modulo d (2 ^ 32) ≡ modulo (a +ℤ b) (2 ^ 32)
     → movedHour (movedHour hour argument a) argument b ≡ movedHour hour argument d
@@ -99,8 +96,9 @@ unfolding movedHour
 moves-add hour argument a b d same =
     let first = movedPhases (hour .phases) argument a in
     let p : movedPhases first argument b ≡ movedPhases (hour .phases) argument d = moved-twice (hour .phases) argument a b d same in
-    let cosines = renewed-again argument cos (hour .cosines) first (movedPhases first argument b) ∙ ap (λ (q : Phases). listed (held argument cos (hour .cosines) q) 49) p in
-    let sines = renewed-again argument sin (hour .sines) first (movedPhases first argument b) ∙ ap (λ (q : Phases). listed (held argument sin (hour .sines) q) 49) p in
+    let last = movedPhases first argument b in
+    let cosines = renewed-again (hasArgument argument) cos (hour .cosines) first last ∙ ap (λ (q : Phases). renewed (hasArgument argument) cos q (hour .cosines)) p in
+    let sines = renewed-again (hasArgument argument) sin (hour .sines) first last ∙ ap (λ (q : Phases). renewed (hasArgument argument) sin q (hour .sines)) p in
     λ j. record { phases = p j; cosines = cosines j; sines = sines j }
 
 -- of a record reached, whose phases the machine holds

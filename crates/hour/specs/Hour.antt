@@ -35,15 +35,15 @@ startHour = hourAt (record { tau = 0; s = 0; h = 0; p = 0; np = 0; ps = 0 })
 unfoldable pub hasArgument : Argument → Multipliers → Bool
 hasArgument argument m = ltb 0 (natAbs (multiplierOf m argument))
 
--- "move one, given by name": lines that have the argument are worked out afresh, and of every other line the record holds what it held
+-- of each line that is chosen by its multipliers a wave W of its phase, and of every other line what is held
+abbrev pub renewed : (Multipliers → Bool) → (ℕ → ℤ) → Phases → List ℤ → List ℤ
+renewed chosen W phases held = listed (λ i. cond (chosen (multipliersAt i)) (W (linePhase phases i)) (kept held i)) 49
+
+-- "move one, given by name": the lines that have the argument are worked out afresh
 unfoldable pub movedHour : Hour → Argument → ℤ → Hour
 movedHour hour argument amount =
     let phases = movedPhases (hour .phases) argument amount in
-    record {
-      phases = phases;
-      cosines = listed (λ i. cond (hasArgument argument (multipliersAt i)) (cos (linePhase phases i)) (kept (hour .cosines) i)) 49;
-      sines = listed (λ i. cond (hasArgument argument (multipliersAt i)) (sin (linePhase phases i)) (kept (hour .sines) i)) 49;
-    }
+    record { phases = phases; cosines = renewed (hasArgument argument) cos phases (hour .cosines); sines = renewed (hasArgument argument) sin phases (hour .sines) }
 
 -- "After any calls from the start": the calls that change a record, and the record that they lead to, one after the other
 pub data HourCall : Type 0 where

@@ -1,8 +1,9 @@
 // The hour record (document 02, T-08): six phases, and the waves of the printed lines that were worked out from them.
 ghost use mathlib.Core.Path.{_≡_};
 ghost use lib.ListN.{length};
-ghost use Rattle.hour.specs.Hour.{hourAt, startHour, movedHour};
-ghost use Rattle.hour.specs.Inner.{isRenewed, renewedCosines, renewedSines};
+ghost use Rattle.wave.specs.Wave.{sin, cos};
+ghost use Rattle.hour.specs.Hour.{hourAt, startHour, renewed, movedHour};
+ghost use Rattle.hour.specs.Inner.{isRenewed};
 use arguments::Argument;
 use arguments::Multipliers;
 use arguments::Phases;
@@ -21,27 +22,27 @@ enum Renewed {
     Having(Argument),
 }
 
-// Whether they are among them that have these multipliers.
-fn is_renewed(renewed: Renewed, m: Multipliers) -> bool
-    ensures { λ r. ⌜ r ≡ isRenewed renewed m ⌝ }
+// Whether the line with these multipliers is among them.
+fn is_renewed(which: Renewed, m: Multipliers) -> bool
+    ensures { λ r. ⌜ r ≡ isRenewed which m ⌝ }
 {
-    match renewed {
+    match which {
         Renewed::All => true,
         Renewed::Having(argument) => arguments::multiplier_of(m, argument) != 0,
     }
 }
 
 // Works the waves of lines out afresh; the other lines keep what is held of them.
-fn renew_waves(phases: Phases, renewed: Renewed, cosines: &mut [i32; 49], sines: &mut [i32; 49])
+fn renew_waves(phases: Phases, which: Renewed, cosines: &mut [i32; 49], sines: &mut [i32; 49])
     requires { ⌜ (length (now cosines) ≡ 49) × (length (now sines) ≡ 49) ⌝ }
-    ensures { λ _. ⌜ (now (cosines .exit) ≡ renewedCosines renewed phases (now (cosines .entry))) × (now (sines .exit) ≡ renewedSines renewed phases (now (sines .entry))) ⌝ }
+    ensures { λ _. ⌜ (now (cosines .exit) ≡ renewed (isRenewed which) cos phases (now (cosines .entry))) × (now (sines .exit) ≡ renewed (isRenewed which) sin phases (now (sines .entry))) ⌝ }
 {
     let tables = lines::printed_tables();
     let digits = tables.digits;
     let mut i = 0;
     while i < 49 {
         let m = lines::multipliers_by(digits[i]);
-        if is_renewed(renewed, m) {
+        if is_renewed(which, m) {
             let wave = wave::wave_of(arguments::phase_of(m, phases));
             cosines[i] = wave.cosine as i32;
             sines[i] = wave.sine as i32;

@@ -23,7 +23,7 @@ returns-2 : tie.Need-returns-2
 unfolding hasArgument
 returns-2 c =
     let f : SFits w32 (c .multiplier-of .result) = search needs in
-    let g = c .before .before .renewed .given in
+    let g = c .before .before .which .given in
     rw (g .1) (not-zero (c .multiplier-of .result) f ∙ ap (λ (z : ℤ). ltb 0 (natAbs z)) (c .multiplier-of .ensures))
 
 pub is-renewed-spec : {M : Type 1} → statement M

@@ -20,18 +20,15 @@ use Rattle.hour.proofs.Kept.{Upto, upto-none, upto-renewed, upto-kept, 
 use Rattle.hour.proofs.renew_waves.Statement.{statement}
 use Rattle.hour.proofs.renew_waves.Tie as tie
 
-abbrev at : (ℕ → ℤ) → Phases → ℕ → ℤ
-at W phases j = W (linePhase phases j)
-
 abbrev Inv-loop : tie.InvT-loop
-Inv-loop phases renewed cosines₀ sines₀ digits i₀ cosines sines i =
-    (i ≤ 49) × Upto renewed (at cos phases) cosines₀ cosines i × Upto renewed (at sin phases) sines₀ sines i
+Inv-loop phases which cosines₀ sines₀ digits i₀ cosines sines i =
+    (i ≤ 49) × Upto (isRenewed which) cos phases cosines₀ cosines i × Upto (isRenewed which) sin phases sines₀ sines i
 
 abbrev μ-loop : tie.MeasureT-loop
-μ-loop phases renewed cosines₀ sines₀ digits i₀ cosines sines i = 49 - i
+μ-loop phases which cosines₀ sines₀ digits i₀ cosines sines i = 49 - i
 
 loop-holds : tie.Need-loop-holds Inv-loop μ-loop
-loop-holds c = let p = c .before .before .pre in (omega arith, upto-none _ _ _ (p .0), upto-none _ _ _ (p .1))
+loop-holds c = let p = c .before .before .pre in (omega arith, upto-none _ _ _ _ (p .0), upto-none _ _ _ _ (p .1))
 
 -- a turn, once it is known whether the line is renewed
 module _ (c : tie.After-is-renewed Inv-loop μ-loop) where
@@ -48,7 +45,7 @@ module _ (c : tie.After-is-renewed Inv-loop μ-loop) where
   phases = start .args .phases
 
   abbrev which : Renewed
-  which = start .args .renewed
+  which = start .args .which
 
   the-line : c .before .multipliers-by .result ≡ multipliersAt i
   the-line =
@@ -66,10 +63,10 @@ module _ (w : tie.After-wave-of Inv-loop μ-loop) where
   the-phase : w .before .phase-of .result ≡ linePhase (phases turn) (i turn)
   the-phase = w .before .phase-of .ensures ∙ ap (λ (m : Multipliers). phase m (phases turn)) (the-line turn)
 
-  cosine : w .wave-of .result .cosine ≡ at cos (phases turn) (i turn)
+  cosine : w .wave-of .result .cosine ≡ cos (linePhase (phases turn) (i turn))
   cosine = w .wave-of .ensures .1 ∙ ap cos the-phase
 
-  sine : w .wave-of .result .sine ≡ at sin (phases turn) (i turn)
+  sine : w .wave-of .result .sine ≡ sin (linePhase (phases turn) (i turn))
   sine = w .wave-of .ensures .0 ∙ ap sin the-phase
 
 cast-cosines : tie.Need-cast-cosines Inv-loop μ-loop
@@ -89,18 +86,18 @@ loop-again c =
           let renewed = sym (is t) ∙ way .0 .taken in
           let p = linePhase (phases t) (i t) in (
             omega arith,
-            subst (λ (x : List ℤ). Upto (which t) (at cos (phases t)) (held .cosines .now) x (i t + 1)) (sym (way .7))
-                (upto-renewed (which t) (at cos (phases t)) (held .cosines .now) (l .cosines) (i t) (l .inv .1) renewed (omega arith) (wave-stored (cosine w) (cos-size p))),
-            subst (λ (x : List ℤ). Upto (which t) (at sin (phases t)) (held .sines .now) x (i t + 1)) (sym (way .8))
-                (upto-renewed (which t) (at sin (phases t)) (held .sines .now) (l .sines) (i t) (l .inv .2) renewed (omega arith) (wave-stored (sine w) (sin-size p))),
+            subst (λ (x : List ℤ). Upto (isRenewed (which t)) cos (phases t) (held .cosines .now) x (i t + 1)) (sym (way .7))
+                (upto-renewed (isRenewed (which t)) cos (phases t) (held .cosines .now) (l .cosines) (i t) (l .inv .1) renewed (omega arith) (wave-stored (cosine w) (cos-size p))),
+            subst (λ (x : List ℤ). Upto (isRenewed (which t)) sin (phases t) (held .sines .now) x (i t + 1)) (sym (way .8))
+                (upto-renewed (isRenewed (which t)) sin (phases t) (held .sines .now) (l .sines) (i t) (l .inv .2) renewed (omega arith) (wave-stored (sine w) (sin-size p))),
           )
       | inr way ↦
           let held-on = sym (is t) ∙ way .0 .left in (
             omega arith,
-            subst (λ (x : List ℤ). Upto (which t) (at cos (phases t)) (held .cosines .now) x (i t + 1)) (sym (way .1))
-                (upto-kept (which t) (at cos (phases t)) (held .cosines .now) (l .cosines) (i t) (l .inv .1) held-on),
-            subst (λ (x : List ℤ). Upto (which t) (at sin (phases t)) (held .sines .now) x (i t + 1)) (sym (way .2))
-                (upto-kept (which t) (at sin (phases t)) (held .sines .now) (l .sines) (i t) (l .inv .2) held-on),
+            subst (λ (x : List ℤ). Upto (isRenewed (which t)) cos (phases t) (held .cosines .now) x (i t + 1)) (sym (way .1))
+                (upto-kept (isRenewed (which t)) cos (phases t) (held .cosines .now) (l .cosines) (i t) (l .inv .1) held-on),
+            subst (λ (x : List ℤ). Upto (isRenewed (which t)) sin (phases t) (held .sines .now) x (i t + 1)) (sym (way .2))
+                (upto-kept (isRenewed (which t)) sin (phases t) (held .sines .now) (l .sines) (i t) (l .inv .2) held-on),
           )
     ]
 
@@ -108,7 +105,7 @@ returns : tie.Need-returns Inv-loop μ-loop
 returns c =
     let l = c .before .loop in
     let e : l .i ≡ 49 = omega arith in
-    (upto-all _ _ _ (l .cosines) (l .i) (l .inv .1) e, upto-all _ _ _ (l .sines) (l .i) (l .inv .2) e)
+    (upto-all _ _ _ _ (l .cosines) (l .i) (l .inv .1) e, upto-all _ _ _ _ (l .sines) (l .i) (l .inv .2) e)
 
 pub renew-waves-spec : {M : Type 1} → statement M
 renew-waves-spec =
