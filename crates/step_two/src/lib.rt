@@ -4,8 +4,8 @@ ghost use mathlib.Core.Path.{_≡_};
 ghost use Prim.Native.Nat.{_+_, _<_};
 ghost use Rattle.bands.specs.Inner.{sumsOf, Bounded, Small};
 ghost use Rattle.lines.specs.Inner.{firsts, seconds};
-ghost use Rattle.step_two.specs.Inner.{Running};
-ghost use Rattle.step_two.specs.StepTwo.{keptSum, keptCorrections};
+ghost use Rattle.step_two.specs.Inner.{upTo, Running};
+ghost use Rattle.step_two.specs.StepTwo.{keptCorrections};
 use bands::Corrections;
 use bands::Sums;
 use choices::LoveModel;
@@ -33,16 +33,18 @@ fn with_printed(
     }
 }
 
-// The five sums of the lines that a selection names, over the waves that a record holds. A loop goes through each band, whose rule the compiler then
-// chooses once.
-fn sums_of(hour: Hour, love: LoveModel, selection: u64) -> Sums
-    ensures { λ r. ⌜ (r ≡ sumsOf (keptSum hour love selection)) × Bounded r ⌝ }
+// The five sums of the lines that a selection names, over given waves. A loop goes through each band, whose rule the compiler then chooses once.
+fn sums_of<'a>(
+    cosines: &'a [i32; 49],
+    sines: &'a [i32; 49],
+    love: LoveModel,
+    selection: u64,
+) -> Sums
+    ensures { λ r. ⌜ (r ≡ sumsOf (upTo love selection (now (cosines .entry)) (now (sines .entry)) 49)) × Bounded r ⌝ }
 {
     let tables = lines::printed_tables();
     let first = tables.first;
     let second = tables.second;
-    let cosines = hour.cosines;
-    let sines = hour.sines;
     let mut sums = Sums {
         c20: 0,
         c21: 0,
@@ -52,15 +54,15 @@ fn sums_of(hour: Hour, love: LoveModel, selection: u64) -> Sums
     };
     let mut i = 0;
     while i < 26 {
-        sums = with_printed(sums, &first, &second, &cosines, &sines, love, selection, i);
+        sums = with_printed(sums, &first, &second, cosines, sines, love, selection, i);
         i += 1;
     }
     while i < 47 {
-        sums = with_printed(sums, &first, &second, &cosines, &sines, love, selection, i);
+        sums = with_printed(sums, &first, &second, cosines, sines, love, selection, i);
         i += 1;
     }
     while i < 49 {
-        sums = with_printed(sums, &first, &second, &cosines, &sines, love, selection, i);
+        sums = with_printed(sums, &first, &second, cosines, sines, love, selection, i);
         i += 1;
     }
     sums
@@ -70,5 +72,5 @@ fn sums_of(hour: Hour, love: LoveModel, selection: u64) -> Sums
 pub fn corrections_of(hour: Hour, love: LoveModel, selection: u64) -> Corrections
     ensures { λ r. ⌜ (r ≡ keptCorrections hour love selection) × Small r ⌝ }
 {
-    bands::rounded_of(sums_of(hour, love, selection))
+    bands::rounded_of(sums_of(&hour.cosines, &hour.sines, love, selection))
 }
