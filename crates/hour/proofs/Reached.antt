@@ -7,7 +7,7 @@ use mathlib.Core.Path.{_≡_, refl, sym, ap, _∙_}
 use Prim.Native.Nat.{ℕ, _^_, _≤_, _<_}
 use native.Mathlib.Omega.{arith}
 use lib.Dec.{ltb}
-use lib.IntN.{ℤ, pos, negsuc, natAbs, _+ℤ_}
+use lib.IntN.{ℤ, pos, natAbs, _+ℤ_}
 use Rattle.arguments.specs.declared.Argument.{Argument}
 use Rattle.arguments.specs.declared.Multipliers.{Multipliers}
 use Rattle.arguments.specs.declared.Phases.{Phases}
@@ -16,6 +16,7 @@ use Rattle.arguments.proofs.Moved.{InATurn, moved-twice, moved-by-nothing, phas
 use Rattle.lines.specs.Lines.{multipliersAt, linePhase}
 use Rattle.wave.specs.Wave.{sin, cos}
 use Rattle.whole.proofs.Listed.{at-listed, listed-same}
+use Rattle.whole.proofs.Parts.{no-size}
 use Rattle.hour.specs.declared.Hour.{Hour}
 use Rattle.hour.specs.Hour.{kept, hourAt, startHour, hasArgument, renewed, movedHour, HourCall, SetHour, MoveHour, called, after, reached, Fresh}
 
@@ -31,11 +32,7 @@ module _ (hour : Hour) (fresh : Fresh hour) (i : ℕ) (h : i < 49) where
 
 -- ---- a line without the argument keeps its phase, and so its wave
 without : (z : ℤ) → ltb 0 (natAbs z) ≡ false → z ≡ pos 0
-without z e = no-size z (leb-false 1 (natAbs z) e)
-  where
-    no-size : (y : ℤ) → natAbs y < 1 → y ≡ pos 0
-    no-size (pos n) h = let q : n ≡ 0 = omega arith in ap pos q
-    no-size (negsuc n) h = absurd (omega arith)
+without z e = no-size z (omega (arith, leb-false 1 (natAbs z) e))
 
 module _ (hour : Hour) (argument : Argument) (amount : ℤ) where
   abbrev phases : Phases

@@ -1,10 +1,10 @@
 -- A line that is not named gives nothing, whatever its wave: a sum stays as it is, and no lines give nothing.
 use mathlib.Core.Bool.{true, false}
 use mathlib.Core.Path.{_≡_, refl, ap, subst, _∙_}
-use Prim.Native.Nat.{ℕ, zero, suc, _+_, _≤_}
+use Prim.Native.Nat.{ℕ, zero, suc, _+_}
 use native.Mathlib.Numerals.{add-one}
 use native.Mathlib.Omega.{arith}
-use lib.IntN.{ℤ, pos, negsuc, natAbs, _+ℤ_, +ℤ-idr}
+use lib.IntN.{ℤ, pos, natAbs, _+ℤ_, +ℤ-idr}
 use Rattle.bands.specs.declared.Line.{Line}
 use Rattle.bands.specs.Bands.{Coefficient, C20, C21, S21, C22, S22, term, sumOf, correctionOf, correctionsOf}
 use Rattle.bands.proofs.Terms.{term-size}
@@ -16,14 +16,11 @@ use Rattle.selection.specs.Selection.{names, withoutAmplitudes, selected}
 use Rattle.selection.proofs.Bits.{clear-above}
 use Rattle.whole.specs.Nearest.{nearest}
 use Rattle.whole.specs.Sum.{sumTo}
+use Rattle.whole.proofs.Parts.{no-size}
 use Rattle.whole.proofs.Sums.{sum-next}
 use Rattle.step_two.specs.StepTwo.{keptCorrections}
 
 -- no amplitudes: no term
-no-size : (z : ℤ) → natAbs z ≤ 0 → z ≡ pos 0
-no-size (pos n) h = let e : n ≡ 0 = omega arith in ap pos e
-no-size (negsuc n) h = absurd (omega arith)
-
 no-amplitudes : (k : Coefficient) (line : Line) (c s : ℤ) → term k (withoutAmplitudes line) c s ≡ pos 0
 no-amplitudes k line c s = no-size (term k (withoutAmplitudes line) c s) (omega (arith, term-size k (withoutAmplitudes line) c s (natAbs c + natAbs s) (omega arith) (omega arith)))
 

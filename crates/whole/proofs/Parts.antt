@@ -105,6 +105,9 @@ pub abs-twice : (a : ℤ) (b : ℕ) → 2 * up a ≤ b + 2 * dn a → 2 * dn a �
 abs-twice (pos n) b h k = omega arith
 abs-twice (negsuc n) b h k = omega arith
 
+pub no-size : (a : ℤ) → natAbs a ≤ 0 → a ≡ pos 0
+no-size a h = same a (pos 0) (omega (arith, abs a))
+
 pub abs-neg : (x : ℤ) → natAbs (negℤ x) ≡ natAbs x
 abs-neg x = omega (arith, abs (negℤ x), abs x, up-neg x, dn-neg x)
 
