@@ -4,12 +4,25 @@ ghost use mathlib.Core.Path.{_≡_};
 ghost use Prim.Native.Nat.{_+_, _<_};
 ghost use Rattle.bands.specs.Inner.{sumsOf, Bounded, Small};
 ghost use Rattle.lines.specs.Inner.{firsts, seconds};
+ghost use Rattle.selection.specs.Selection.{names as namesLine};
 ghost use Rattle.step_two.specs.Inner.{upTo, Running};
 ghost use Rattle.step_two.specs.StepTwo.{keptCorrections};
 use bands::Corrections;
 use bands::Sums;
 use choices::LoveModel;
 use hour::Hour;
+
+// Whether a selection names line i. That of all lines is told by itself: the compiler then makes loops that test no bit and have every amplitude as a constant.
+fn is_named(selection: u64, i: usize) -> bool
+    requires { ⌜ i < 49 ⌝ }
+    ensures { λ r. ⌜ r ≡ namesLine selection i ⌝ }
+{
+    if selection == profiles::all_lines() {
+        true
+    } else {
+        selection::names(selection, i)
+    }
+}
 
 // The five sums with those of line i added, if a selection names it. Bits above 48 stand for nothing.
 fn with_printed(
@@ -25,7 +38,7 @@ fn with_printed(
     requires { ⌜ (i < 49) × ((now first ≡ firsts) × ((now second ≡ seconds) × Running love selection (now cosines) (now sines) i sums)) ⌝ }
     ensures { λ r. ⌜ Running love selection (now (cosines .entry)) (now (sines .entry)) (i + 1) r ⌝ }
 {
-    if selection::names(selection, i) {
+    if is_named(selection, i) {
         let line = lines::printed_line(first, second, love, i);
         bands::with_line(sums, line, cosines[i] as i64, sines[i] as i64)
     } else {

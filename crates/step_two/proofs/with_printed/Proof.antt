@@ -43,7 +43,7 @@ cast-with-line c = let s = c .before .before .before .before in wave-fits (C s (
 
 -- a line that is named, once its waves are read
 module _ (w : tie.After-with-line-arg2) where
-  abbrev named : tie.After-names
+  abbrev named : tie.After-is-named
   named = w .before .before .before .before
 
   abbrev x : tie.Start
@@ -58,7 +58,7 @@ module _ (w : tie.After-with-line-arg2) where
   the-line : w .before .before .printed-line .result ≡ lines x (i x)
   the-line =
       named-line (printedLine (x .args .love)) (x .args .selection) (i x)
-      (sym (named .names .ensures) ∙ w .before .before .before .if1 .taken) (w .before .before .printed-line .ensures)
+      (sym (named .is-named .ensures) ∙ w .before .before .before .if1 .taken) (w .before .before .printed-line .ensures)
 
 cast-with-line-2 : tie.Need-cast-with-line-2
 cast-with-line-2 w = wave-fits (S (x w) (i (x w))) (w .with-line-arg2 .given)
@@ -85,7 +85,7 @@ returns-2 : tie.Need-returns-2
 returns-2 c =
     let s = c .before .before in
     let same : (k : Coefficient) → sumOf (lines s) (C s) (S s) (i s + 1) k ≡ sumOf (lines s) (C s) (S s) (i s) k
-    = unnamed-sum (printedLine (s .args .love)) (s .args .selection) (i s) (sym (c .before .names .ensures) ∙ c .if1 .left) (C s) (S s) in
+    = unnamed-sum (printedLine (s .args .love)) (s .args .selection) (i s) (sym (c .before .is-named .ensures) ∙ c .if1 .left) (C s) (S s) in
     record { sums-are = before s .sums-are ∙ same-sums (λ k. sym (same k)); most = λ k. rw (same k) (omega (arith, before s .most k)) }
 
 pub with-printed-spec : {M : Type 1} → statement M
