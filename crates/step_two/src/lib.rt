@@ -12,7 +12,8 @@ use bands::Sums;
 use choices::LoveModel;
 use hour::Hour;
 
-// Whether a selection names line i. That of all lines is told by itself: the compiler then makes loops that test no bit and have every amplitude as a constant.
+// Whether a selection names line i. That of all lines is told by itself, so that the compiler makes loops for it that test no bit and have every
+// amplitude as a constant.
 fn is_named(selection: u64, i: usize) -> bool
     requires { ⌜ i < 49 ⌝ }
     ensures { λ r. ⌜ r ≡ namesLine selection i ⌝ }
