@@ -1,5 +1,5 @@
 -- What a sheet that is not refused has.
-use mathlib.Core.Path.{_≡_, refl, sym, ap, subst}
+use mathlib.Core.Path.{_≡_, refl, sym, subst}
 use mathlib.Core.Bool.{Bool, true, false, cond, _&&_, _||_}
 use mathlib.Core.List.{List}
 use Prim.Native.Nat.{ℕ, zero, suc, _+_, _-_, _^_, _≤_, _<_}
@@ -7,7 +7,7 @@ use native.Mathlib.Nat.{add-zero, mul-le-mul}
 use native.Mathlib.Omega.{arith}
 use borrow.Author.Tests.{leb-true, ltb-true, eqb-true, le-leb}
 use lib.Dec.{leb, ltb, eqb}
-use lib.IntN.{ℤ, pos, negsuc, natAbs}
+use lib.IntN.{ℤ, pos, natAbs}
 use lib.ListN.{length}
 use Rattle.whole.specs.Sum.{weightTo, allTo}
 use Rattle.field.specs.Field.{place}
@@ -19,6 +19,7 @@ use Rattle.sheet.specs.declared.Layout.{Layout}
 use Rattle.sheet.specs.Inner.{Whole, Passed}
 use Rattle.refusals.proofs.Outcomes.{first-none}
 use Rattle.whole.proofs.Counted.{all-at, all-of}
+use Rattle.whole.proofs.Parts.{no-size}
 
 four : (a b c d : Bool) → (a && b && c && d) ≡ true → (a ≡ true) × (b ≡ true) × (c ≡ true) × (d ≡ true)
 four a b c d e =
@@ -69,8 +70,7 @@ pub record Counts (s : List ℕ) (j k : ℕ) : Type 0 where
   pub s-sin : order s j ≡ 0 → coefficient s j k sSin ≡ pos 0
 
 zero-size : (z : ℤ) → eqb (natAbs z) 0 ≡ true → z ≡ pos 0
-zero-size (pos n) e = ap pos (eqb-true n 0 e)
-zero-size (negsuc n) e = absurd (let z : suc n ≡ 0 = eqb-true (suc n) 0 e in omega arith)
+zero-size z e = no-size z (omega (arith, eqb-true (natAbs z) 0 e))
 
 -- of "m is above 0, or b", b where m is 0
 zonal : (m : ℕ) (b : Bool) → (ltb 0 m || b) ≡ true → m ≡ 0 → b ≡ true
