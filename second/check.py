@@ -1,13 +1,13 @@
-"""Runs the cases of the description (01, and T-01, T-02 and T-04 to T-08 of 02) and its bounds on the second program; prints one line."""
+"""Runs the cases of the description (01, and T-01, T-02 and T-04 to T-09 of 02) and its bounds on the second program; prints one line."""
 
 import struct
 from collections import Counter, defaultdict
 from decimal import ROUND_HALF_UP, Decimal
 from fractions import Fraction
-from functools import lru_cache
+from functools import lru_cache, reduce
 from itertools import combinations, product
 from math import atan2, ceil, cos, factorial, floor, hypot, inf, ldexp, nan, nextafter, pi, sin, sqrt, trunc
-from operator import add, neg
+from operator import add, mul, neg, or_, xor
 from unittest.mock import patch
 
 import given
@@ -932,8 +932,8 @@ def sheet_faults():
     for _ in range(3000):
         data = bytearray(good)
         data[chance.below(len(data))] = chance.below(256)
-        expect('sheet', t.sheet_test(bytes(data), 5)[0] in (0, 7, 8, 9), True)
-        expect('sheet', t.sheet_test(chance.bytes(chance.below(120)), 5)[0] in (7, 8, 9), True)
+        expect('sheet', t.sheet_test(bytes(data), 5)[0] in (0, 7, 8, 9), True)      # one byte makes no twins of SMALL's lines
+        expect('sheet', t.sheet_test(chance.bytes(chance.below(120)), 5)[0] in (7, 8, 16, 9), True)
 
 
 def ocean(hardest):
@@ -948,6 +948,268 @@ def ocean(hardest):
     for _ in range(4):
         phase = given.phase(chance)
         check_ocean(hard_sheet(phase), (phase, 1, 2, 3, 4, 5), t.FIGURE)
+
+
+# --- Twin lines in a sheet ---
+
+def by_set(some):
+    """Whether two of them are equal, by how many are left in a set."""
+    return len({*map(tuple, some)}) < len(some)
+
+
+def by_order(lines):
+    """Whether two lines are equal, by the neighbours once they stand in order."""
+    ordered = sorted(map(tuple, lines))
+    return any(one == two for one, two in zip(ordered, ordered[1:]))
+
+
+def check_twins(lines):
+    """Lines with or without twins, by two other methods; and a sheet of them, with any rows and places, on a field. Answers whether there are twins."""
+    twins = by_set(lines)
+    expect('twins', (t.has_twins([*map(tuple, lines)]), by_order(lines)), (twins, twins))
+    _, rows, places = given.sheet(chance, len(lines), chance.between(1, 3), chance.between(0, 4))
+    data, N = write_sheet(lines, rows, places), chance.between(4, 12)
+    number = 16 if twins else 9 if any(n > N for n, _, _ in places) else 0
+    C, S = random_field(N)
+    got, C2, S2 = t.ocean(N, C, S, data, random_phases(), chance.one(*FRAMES))
+    expect('twins', (t.sheet_test(data, N)[0], got, t.sheet_test(data, 12)[0]), (number, number, 16 * twins))
+    assert got == 0 or (C2, S2) == (C, S)
+    return twins
+
+
+def twins():
+    """T-09's condition by other methods, at any two places; what else may be alike; and the order of the refusals."""
+    for number, N, data in telling.twin_calls():
+        expect('twins', t.sheet_test(data, N)[0], number)
+    found = Counter()
+    for _ in range(2000):                                                       # multipliers of two kinds: about one list in two has twins
+        kinds = chance.between(-13, 13), chance.one(13, -13, 0)
+        found[check_twins([tuple(chance.one(*kinds) for _ in range(6)) for _ in range(chance.between(1, 12))])] += 1
+    expect('twins', min(found.values()) > 500, True)
+    for count in (*range(2, 13), 128):
+        lines = given.different_lines(chance, count)
+        expect('twins', check_twins(lines), False)
+        for two in combinations(range(count), 2):
+            if count < 128 or two in telling.FAR_TWINS or chance.one_in(20):
+                expect('twins', t.has_twins(given.twinned(lines, *two)), True)
+    for _ in range(300):                                                        # one line more, and one multiplier of it changed
+        lines = given.different_lines(chance, chance.one(1, 2, chance.between(3, 20)))
+        one, at = chance.one(*lines), chance.between(0, len(lines))
+        other = tuple(given.spoilt(one, chance.below(6), chance.between(-13, 13)))
+        expect('twins', check_twins([*lines[:at], one, *lines[at:]]), True)
+        expect('twins', check_twins([*lines[:at], other, *lines[at:]]), other in lines)
+    for _ in range(200):                                                        # the lines in another order, with their admittances
+        lines, rows, places = given.sheet(chance, chance.between(2, 9), chance.between(1, 3), chance.between(1, 4))
+        lines = chance.one(lines, given.twinned(lines, *chance.some(2, range(len(lines)))))
+        order = sorted(range(len(lines)), key=lambda _: chance.word())
+        other = [lines[i] for i in order], [[row[i] for i in order] for row in rows], places
+        call = random_phases(), chance.one(*FRAMES)
+        answer, again = (t.ocean(12, [0] * 91, [0] * 91, write_sheet(*sheet), *call) for sheet in ((lines, rows, places), other))
+        expect('twins', (answer[0], again), (16 * by_set(lines), answer))
+    for _ in range(100):                                                        # rows, columns or tides alike; opposite, reversed and sorted lines
+        lines, rows, places = given.sheet(chance, chance.between(2, 6), chance.between(2, 4), chance.between(2, 4))
+        one = given.line(chance)
+        alike = [*dict.fromkeys((one, opposite(one), one[::-1], tuple(sorted(one))))]
+        for sheet in ((lines, [rows[0]] * len(rows), places), (lines, [[1] * len(lines)] * len(rows), places),
+                      (lines, rows, [(n, m, [quads[0]] * len(rows)) for n, m, quads in places]),
+                      (alike, [given.row(chance, len(alike)) for _ in rows], places)):
+            check_ocean(sheet, random_phases(), chance.one(*FRAMES), N=12)
+    ocean_orders()
+
+
+def ocean_orders():
+    """Every set of faults: the number that is first in the order is answered, and nothing changed."""
+    expect('orders', given.OCEAN_ORDER, (1, 2, 7, 8, 16, 9))
+    for some, _ in product(range(1 << 6), range(12)):
+        faults = [i for i in range(6) if some >> i & 1]
+        (N, C, S), data = given.ocean_with(chance, faults)
+        number, C2, S2 = t.ocean(N, C, S, data, random_phases(), chance.one(*FRAMES))
+        expect('orders', (number, by_set(lines_in(data)) or 4 not in faults), (given.OCEAN_ORDER[faults[0]] if faults else 0, True))
+        assert not faults or (C2, S2) == (C, S)
+
+
+def lines_in(data):
+    """The lines that stand in a sheet's bytes by the low byte of their count, whatever follows; none where they are not all there."""
+    end = 2 + 6 * (data[0] if data else 0)
+    return [*struct.iter_unpack('<6b', data[2:end])] if len(data) >= end else []
+
+
+TESTS_7, TESTS_8 = ('7 lines', '7 tides', '7 places', '7 length'), ('8 lines', '8 rows', '8 places', '8 order')
+
+
+@lru_cache(None)
+def sheet_faults_in(data):
+    """The tests of 7 that any bytes do not pass, and where they pass all of them those of 8; then the sheet, or None."""
+    word = lambda at: int.from_bytes(data[at:at + 2], 'little') if 2 <= at + 2 <= len(data) else -1
+    lines = word(0)
+    tides = word(2 + 6 * lines)
+    places_at = 4 + 6 * lines + 4 * lines * tides
+    places = word(places_at)
+    passed = 1 <= lines <= 128, 1 <= tides <= 32, 0 <= places <= 90, len(data) == places_at + 2 + places * (2 + 16 * tides)
+    number, sheet = t.read_sheet(data)
+    expect('twin slips', 0 if all(passed) else 7, number)
+    if sheet:
+        lines, rows, places = sheet
+        order = [two for *two, _ in places]
+        passed += (
+            all(abs(n) <= 13 for line in lines for n in line), all(sum(map(abs, row)) <= 4_000_000 for row in rows),
+            all(t.place_fits(*place) for place in places), order == sorted(order) and not by_set(order))
+    return {name for name, passes in zip(TESTS_7 + TESTS_8, passed) if not passes}, sheet
+
+
+RIGHT_TWINS = {
+    'order': ('1', '2', *TESTS_7, *TESTS_8, '16', '9'), 'pairs': lambda lines: combinations(range(len(lines)), 2), 'key': lambda line: line,
+    'counts': lambda line, a, b, places, frame: True, 'found': lambda pairs: pairs > 0, 'more': lambda lines, rows, places: False, 'number': 16}
+
+
+def twins_by(rule, data, sheet, frame):
+    """T-09's condition by a rule that can be changed: which two lines are compared, what of a line, whether two that agree count, by the first one, the
+    admittances of each, the places and the frame, and how many pairs do; and what else is taken for twins."""
+    lines = lines_in(data)
+    keys = [*map(rule['key'], lines)]
+    agree = [(i, j) for i, j in rule['pairs'](lines) if keys[i] == keys[j]]
+    if sheet is None:                                                           # a test of 7 comes later
+        return rule['found'](len(agree))
+    lines, rows, places = sheet
+    of_line = [*zip(*rows)]
+    pairs = sum(1 for i, j in agree if rule['counts'](lines[i], of_line[i], of_line[j], places, frame))
+    return rule['found'](pairs) or rule['more'](lines, rows, places)
+
+
+def ocean_number(rule, N, C, S, data, frame):
+    """The number that the ocean tide is refused with, or 0, by a rule that can be changed: the order of the tests, 16's condition and its number."""
+    failed, sheet = sheet_faults_in(data)
+    tests = {
+        '1': lambda: not 4 <= N <= 60 or {len(C), len(S)} != {t.size(N)}, '2': lambda: any(abs(entry) > 1 << 60 for entry in (*C, *S)),
+        '16': lambda: twins_by(rule, data, sheet, frame), '16 places': lambda: by_set([two for *two, _ in sheet[2]]),
+        '9': lambda: any(n > N for n, _, _ in sheet[2])}
+    for name in rule['order']:
+        if tests[name]() if name in tests else name in failed:
+            return rule['number'] if name == '16' else int(name.split()[0])
+    return 0
+
+
+def order_slips():
+    """16 never, and after 9; before any of the tests of 8, of 7, and before 2 and 1; and for twins among the places."""
+    first, last = ('1', '2', *TESTS_7), (*TESTS_8, '9')
+    yield *first, *last
+    yield *first, *last, '16'
+    for some in range(1, 1 << 4):
+        before, later = ([name for i, name in enumerate(TESTS_8) if some >> i & 1 == which] for which in (0, 1))
+        yield *first, *before, '16', *later, '9'
+        yield *first, *before, '16', '9', *later
+    for i in range(4):
+        yield '1', '2', *TESTS_7[:i], '16', *TESTS_7[i:], *last
+        yield '1', '2', *TESTS_7[:i], *TESTS_7[i + 1:], '16', TESTS_7[i], *last
+    yield '1', '16', '2', *TESTS_7, *last
+    yield '16', *first, *last
+    yield *TESTS_7, *TESTS_8, '16', '1', '2', '9'
+    yield *first, *TESTS_8[:3], '16 places', TESTS_8[3], '16', '9'
+
+
+def pair_slips():
+    """Which two lines are compared, by where they stand: none; neighbours or all others; the first or the last with others, or not at all; those of a
+    half, by parity, or opposite each other; 128 as a signed byte; the first or last so many, near ones, those of a block; and all pairs but one.
+    Then neighbours, once the lines stand in an order that some of their multipliers, or a number, give."""
+    pairs = lambda count: combinations(range(count), 2)
+    such = lambda does: lambda count: ((i, j) for i, j in pairs(count) if does(i, j, count))
+    places = [
+        lambda count: (), such(lambda i, j, count: j == i + 1), such(lambda i, j, count: j > i + 1), such(lambda i, j, count: j - i in (1, count - 1)),
+        such(lambda i, j, count: i == 0), such(lambda i, j, count: j == count - 1), such(lambda i, j, count: i > 0),
+        such(lambda i, j, count: j < count - 1), such(lambda i, j, count: i > 0 and j < count - 1), such(lambda i, j, count: i > 0 or j < count - 1),
+        such(lambda i, j, count: i + j == count - 1), such(lambda i, j, count: i < count // 2 <= j), such(lambda i, j, count: not i < count // 2 <= j),
+        such(lambda i, j, count: j < count // 2), such(lambda i, j, count: i >= count // 2), such(lambda i, j, count: (i + j) % 2),
+        such(lambda i, j, count: (i + j) % 2 == 0), such(lambda i, j, count: j == i + 1 and i % 2 == 0), such(lambda i, j, count: count < 128)]
+    for most in (1, 2, 3, 4, 5, 16, 31, 32, 63, 64, 65, 100, 126, 127):
+        places += [such(lambda i, j, count, most=most: j < most), such(lambda i, j, count, most=most: i >= count - most),
+                   such(lambda i, j, count, most=most: j - i < most), such(lambda i, j, count, most=most: i // most == j // most)]
+    for left in (*((count, *two) for count in range(2, 6) for two in pairs(count)), *((128, *two) for two in telling.FAR_TWINS)):
+        places.append(such(lambda i, j, count, left=left: (count, i, j) != left))
+    yield from (lambda lines, does=does: does(len(lines)) for does in places)
+    some_of = [lambda line, some=some: [line[i] for i in range(6) if some >> i & 1] for some in range(63)]
+    for number in (*some_of, sum, sorted, lambda line: [*map(abs, line)], lambda line: sum(map(abs, line))):
+        in_order = lambda lines, number=number: sorted(range(len(lines)), key=lambda i: number(lines[i]))
+        yield lambda lines, in_order=in_order: zip(in_order(lines), in_order(lines)[1:])
+
+
+def key_slips():
+    """What is compared of a line: some of its multipliers; one of them without its sign or as a remainder; all of them without sign or order; and
+    numbers made of the six that different lines share."""
+    for some in range(63):
+        yield lambda line, some=some: [line[i] for i in range(6) if some >> i & 1]
+    for i in range(6):
+        yield lambda line, i=i: given.spoilt(line, i, abs(line[i]))
+        yield lambda line, i=i: given.spoilt(line, i, (line[i] > 0) - (line[i] < 0))
+        for modulus in range(1, 27):                                            # fewer bits or digits than 27 numbers need
+            yield lambda line, i=i, modulus=modulus: given.spoilt(line, i, line[i] % modulus)
+        if i < 5:
+            yield lambda line, i=i: (*line[:i], *sorted(line[i:i + 2]), *line[i + 2:])
+    yield from (
+        sorted, sum, max, min, lambda line: sorted(map(abs, line)), lambda line: [*map(abs, line)], lambda line: [n > 0 for n in line],
+        lambda line: max(line, opposite(line)), lambda line: max(line, line[::-1]), lambda line: max(line[i:] + line[:i] for i in range(6)),
+        lambda line: sum(map(abs, line)), lambda line: sum(n * n for n in line), lambda line: (sum(line), sum(n * n for n in line)),
+        lambda line: sum(i * n for i, n in enumerate(line, 1)), lambda line: reduce(mul, line), lambda line: reduce(xor, line),
+        lambda line: ''.join(map(str, line)), lambda line: ''.join(str(abs(n)) for n in line), lambda line: line[:(*line, 0).index(0)])
+    for turn in (1, -1):                                                        # rising powers, then falling ones
+        number = lambda line, radix, turn=turn: sum((n + 13) * radix**i for i, n in enumerate(line[::turn]))
+        for radix in range(27):
+            yield lambda line, radix=radix, number=number: number(line, radix)
+        for radix, bits in product((27, 32), (8, 15, 16, 24, 28)):
+            yield lambda line, radix=radix, bits=bits, number=number: number(line, radix) % (1 << bits)
+        for modulus in (127, 128, 251, 256, 997, 1000, 1009, 1024, 4096):
+            yield lambda line, modulus=modulus, number=number: number(line, 27) % modulus
+        yield lambda line, number=number: struct.pack('<f', number(line, 27))
+        yield lambda line, turn=turn: reduce(or_, (n << 8 * i for i, n in enumerate(line[::turn])))       # bytes put together with their signs
+        for bits in range(5):
+            yield lambda line, turn=turn, bits=bits: reduce(or_, (n + 13 << bits * i for i, n in enumerate(line[::turn])))
+
+
+def kind_slips():
+    """Which twins count, by their admittances, the tides, the places, the frame and their multipliers; how many pairs; what else is taken for twins,
+    rows, admittances or coefficients that are equal, or lines at an end; and another number."""
+    yield from product(['counts'], (
+        lambda line, a, b, places, frame: a == b, lambda line, a, b, places, frame: a != b,
+        lambda line, a, b, places, frame: a[0] == b[0], lambda line, a, b, places, frame: a[0] != b[0],
+        lambda line, a, b, places, frame: a[-1] == b[-1], lambda line, a, b, places, frame: a[-1] != b[-1],
+        lambda line, a, b, places, frame: a == opposite(b), lambda line, a, b, places, frame: a != opposite(b),
+        lambda line, a, b, places, frame: any(a), lambda line, a, b, places, frame: any(b), lambda line, a, b, places, frame: any(a + b),
+        lambda line, a, b, places, frame: len(a) == 1, lambda line, a, b, places, frame: len(a) > 1, lambda line, a, b, places, frame: len(a) < 32,
+        lambda line, a, b, places, frame: places, lambda line, a, b, places, frame: not places, lambda line, a, b, places, frame: len(places) > 1,
+        lambda line, a, b, places, frame: len(places) < 3, lambda line, a, b, places, frame: any(n > 1 for n, _, _ in places),
+        lambda line, a, b, places, frame: not places or frame == t.FIGURE or any(n > 1 for n, _, _ in places),
+        lambda line, a, b, places, frame: frame == t.FIGURE, lambda line, a, b, places, frame: frame == t.MASS,
+        lambda line, a, b, places, frame: any(line), lambda line, a, b, places, frame: not any(line), lambda line, a, b, places, frame: all(line),
+        lambda line, a, b, places, frame: max(line) < 13, lambda line, a, b, places, frame: min(line) > -13,
+        lambda line, a, b, places, frame: min(line) < 0, lambda line, a, b, places, frame: max(line) > 0))
+    yield from product(['found'], (lambda pairs: pairs == 1, lambda pairs: pairs > 1, lambda pairs: pairs % 2, lambda pairs: pairs in (1, 2)))
+    yield from product(['more'], (
+        lambda lines, rows, places: by_set(rows), lambda lines, rows, places: any(one == two for one, two in zip(rows, rows[1:])),
+        lambda lines, rows, places: by_set([max(row, opposite(row)) for row in rows]), lambda lines, rows, places: by_set([*zip(*rows)]),
+        lambda lines, rows, places: any(len({*row}) < len(row) for row in rows), lambda lines, rows, places: not all(map(any, rows)),
+        lambda lines, rows, places: not all(map(any, zip(*rows))), lambda lines, rows, places: any(by_set(quads) for _, _, quads in places),
+        lambda lines, rows, places: by_set([sum(quads, ()) for _, _, quads in places]), lambda lines, rows, places: not all(map(any, lines)),
+        lambda lines, rows, places: (13,) * 6 in lines, lambda lines, rows, places: (-13,) * 6 in lines, lambda lines, rows, places: len(lines) == 128))
+    yield from product(['number'], (0, 7, 8, 9, 15, 17))
+
+
+def twin_slips():
+    """T-09 told by the stored calls from each rule with one piece changed; and T-01's, by which "equal records are allowed", from those that refuse
+    equal records, or equal multipliers, with 16."""
+    answered = [(does, field, does(*field)[0]) for name, does, field in values.lent[::-1] if name == 'ocean_tide']
+
+    def told(rule):
+        with patch.object(t, 'ocean', lambda N, C, S, data, phases, frame: ocean_number(rule, N, C, S, data, frame)):
+            return any(does(*field) != number for does, field, number in answered)
+
+    for own_key in (lambda line: line, lambda line: sum(n * 27**i for i, n in enumerate(line)), lambda line: [n & 31 for n in line]):
+        expect('twin slips', told({**RIGHT_TWINS, 'key': own_key}), False)      # no two lines share these
+    slips = *product(['order'], order_slips()), *product(['pairs'], pair_slips()), *product(['key'], key_slips()), *kind_slips()
+    for k, (piece, wrong) in enumerate(slips):
+        expect('twin slips', (k, piece, wrong, told({**RIGHT_TWINS, piece: wrong})), (k, piece, wrong, True))
+    own, test = [one for one in values.lent if one[0] == 'own_lines'], t.records_test
+    for alike in (by_set, lambda records: by_set([six for *six, _, _ in records])):
+        with patch.object(t, 'records_test', lambda records, alike=alike: test(records) or 16 * alike(records)):
+            expect('twin slips', any(does(*field)[0] == 16 for _, does, field in own), True)
 
 
 # --- Step one ---
@@ -1545,13 +1807,14 @@ def reversed_sheets():
         expect('reversed sheets', t.ocean_corrections(sheet, phases, frame), noting(met)['ocean_corrections'](sheet, phases, frame))
     expect('reversed sheets', every_half('factor', 'ocean tide') - met, set())
     numbers = Counter()
-    for sheet in (given.SMALL, *given.faulty_sheets()):
+    lines, *rest = given.SMALL
+    for sheet in (given.SMALL, (lines[:1] * 2, *rest), *given.faulty_sheets()):
         two = write_sheet(*sheet), write_sheet(*reversed_sheet(*sheet))
         for changed, N in product((lambda data: data, lambda data: data[:-1], lambda data: data + b'\0'), (4, 5, 12)):
             number, other = (t.sheet_test(changed(data), N)[0] for data in two)
             expect('reversed sheets', other, number)
             numbers[number] += 1
-    expect('reversed sheets', sorted(numbers), [0, 7, 8, 9])
+    expect('reversed sheets', sorted(numbers), [0, 7, 8, 9, 16])
     for i in range(4):                                                          # the one count that has no negative
         least = given.SMALL[0], [[0, 0]], [(2, 2, [tuple(given.spoilt((0,) * 4, i, -(1 << 31)))])]
         expect('reversed sheets', (reversed_sheet(*least), t.sheet_test(write_sheet(*least), 12)), (least, (8, None)))
@@ -1624,6 +1887,7 @@ def main():
     selections(hardest)
     sheet_faults()
     ocean(hardest)
+    twins()
     step_one_values()
     step_one_refusals()
     solid_tide()
@@ -1640,6 +1904,7 @@ def main():
     values.make()
     hour_slips()
     rounding_slips()
+    twin_slips()
     seen = ', '.join(f'{kind} {count}' for kind, count in counts.items())
     errors = ', '.join(f'{kind} {float(error):.6f}' for kind, error in worst.items())
     print(f'ok: {seen}; largest errors: {errors}')

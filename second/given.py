@@ -2,9 +2,11 @@
 
 import struct
 from functools import lru_cache
+from itertools import cycle, islice, product
 from math import inf, nan, nextafter
 
 import tides as t
+from chance import WORD, Chance
 
 EDGE = t.FIELD_BOUND
 U32 = (1 << 32) - 1
@@ -227,15 +229,21 @@ def body_with(chance, numbers, heavy):
     return one
 
 
-def solid_with(chance, faults):
-    """A field, the Moon, the Sun and a selection with these faults, places in SOLID_ORDER in ascending order: the first one's number is due."""
+def field_with(chance, faults):
+    """A field with these faults: 0 for refusal 1, 1 for refusal 2, with which the orders of refusals begin."""
     N, C, S = varied_field(chance, 4)
     if 1 in faults:
         C, S = chance.one((spoilt(C, 14, EDGE + 1), S), (C, spoilt(S, 14, -EDGE - 1)))
     if 0 in faults:
         N, C, S = chance.one((3, C, S), (61, C, S), (N, C[1:], S), (N, C, [0, *S]))
+    return N, C, S
+
+
+def solid_with(chance, faults):
+    """A field, the Moon, the Sun and a selection with these faults, places in SOLID_ORDER in ascending order: the first one's number is due."""
+    field = field_with(chance, faults)
     moon, sun = (body_with(chance, [SOLID_ORDER[i] for i in faults if i in own], 9 in faults) for own in (range(3, 6), range(6, 9)))
-    return (N, C, S), moon, sun, accepted_selection(chance) | (chance.one(*ABOVE) if 2 in faults else 0)
+    return field, moon, sun, accepted_selection(chance) | (chance.one(*ABOVE) if 2 in faults else 0)
 
 
 # --- Records of our own lines ---
@@ -337,19 +345,44 @@ def quad(chance, m, edge):
     return tuple(0 if m == 0 and i % 2 else count() for i in range(4))
 
 
+def line(chance):
+    return tuple(chance.one(chance.between(-13, 13), 13, -13, 0, 1) for _ in range(6))
+
+
+def different_lines(chance, count):
+    """So many lines, none twice. One that stands already is drawn again by a Chance of its own, so that what is drawn later stays the same."""
+    drawn, again = [], Chance(chance.state ^ WORD)
+    for _ in range(count):
+        one = line(chance)
+        while one in drawn:
+            one = line(again)
+        drawn.append(one)
+    return drawn
+
+
+def twinned(lines, i, j):
+    """The lines with the one at j made the twin of the one at i."""
+    return spoilt(lines, j, lines[i])
+
+
 def sheet(chance, lines, tides, places, top=12):
     """Lines, rows and places that are right, the places of degree 1..top."""
     where = [place for place in PLACES if place[0] <= top]
     where = chance.some(min(places, len(where)), where)
-    return ([tuple(chance.one(chance.between(-13, 13), 13, -13, 0, 1) for _ in range(6)) for _ in range(lines)],
+    return (different_lines(chance, lines),
             [row(chance, lines) for _ in range(tides)],
             [(n, m, [quad(chance, m, chance.one(1 << 24, 1000, 1)) for _ in range(tides)]) for n, m in where])
+
+
+# 128 lines that all differ: every multiplier is 13 or -13, but that the last one of the second 64 is 12 or -12.
+FAR_LINES = [(*five, last) for last in (13, -13, 12, -12) for five in product((13, -13), repeat=5)]
 
 
 def shaped_sheet(lines, tides, places):
     """The bytes of a sheet of these counts, in their ranges or not: its length is exact for them, its values are right where they can be."""
     where = [*PLACES, (13, 0), (13, 1)][:places]
-    return write_sheet([(1, 0, 0, 0, 0, 0)] * lines, [[100] * lines] * tides, [(*place, [(1000, 0, -500, 0)] * tides) for place in where])
+    different = islice(cycle([(1, 0, 0, 0, 0, 0), *FAR_LINES]), lines)
+    return write_sheet([*different], [[100] * lines] * tides, [(*place, [(1000, 0, -500, 0)] * tides) for place in where])
 
 
 def wave_sheet():
@@ -374,9 +407,9 @@ def faulty_sheets():
     for bad in ([4_000_000, 1], [-2_000_000, 2_000_001], [0, -4_000_001], [LEAST_32, 0], [0, LEAST_32], [LEAST_32] * 2, [-1 - LEAST_32] * 2):
         yield lines, [bad], []
         yield lines, [*rows[:2], bad], places
-    yield [(0,) * 6] * 4, [[LEAST_32] * 4], []                                  # adds to 0 in 32 bits, and in 33
-    yield [(0,) * 6] * 128, [[LEAST_32] * 128], []
-    yield [(0,) * 6] * 128, [[31_250] * 127 + [-31_251]], []
+    yield FAR_LINES[:4], [[LEAST_32] * 4], []                                   # adds to 0 in 32 bits, and in 33
+    yield FAR_LINES, [[LEAST_32] * 128], []
+    yield FAR_LINES, [[31_250] * 127 + [-31_251]], []
     for bad in ((0, 0), (0, 1), (13, 0), (13, 13), (255, 255), (2, 3), (1, 2), (12, 13), (128, 0), (2, 255)):
         yield lines, still, [(*bad, zero)]
         yield lines, still, [(1, 1, zero), (*bad, zero)]
@@ -390,3 +423,30 @@ def faulty_sheets():
     for bad in ((0, 1, 0, 0), (0, 0, 0, -1), (0, -1, 0, 0), (0, 0, 0, 1), (0, 1 << 24, 0, 0)):
         yield lines, still, [(3, 0, [bad])]
         yield lines, still * 2, [(2, 2, zero * 2), (3, 0, zero + [bad]), (3, 1, zero * 2)]
+
+
+# --- Orders of the ocean tide's refusals ---
+
+OCEAN_ORDER = 1, 2, 7, 8, 16, 9
+
+
+def ocean_with(chance, faults):
+    """A field and the bytes of a sheet with these faults, places in OCEAN_ORDER in ascending order: the first one's number is due."""
+    field = field_with(chance, faults)
+    lines, rows, places = sheet(chance, chance.between(2, 6), chance.between(1, 3), chance.between(0, 4), 4)
+    last, none = len(lines) - 1, [(0,) * 4] * len(rows)
+    if 5 in faults:
+        n = chance.between(5, 12)
+        places = [*places, (n, chance.between(0, n), none)]
+    if 4 in faults:
+        lines = twinned(lines, *chance.one((0, 1), (0, last), (last - 1, last), chance.some(2, range(len(lines)))))
+    if 3 in faults:                                                             # which leaves twins as they are
+        at, far, again = chance.below(6), chance.one(14, -14, 127, -128), [(12, 12, none)] * 2
+        lines, rows, places = chance.one(
+            ([spoilt(one, at, far) for one in lines], rows, places),
+            (lines, [*rows[1:], [4_000_001] + [0] * last], places),
+            (lines, rows, [*places, *again]))
+    data = write_sheet(lines, rows, places)
+    if 2 in faults:
+        data = chance.one(data[:-1], data + b'\0', data[:2 + 6 * len(lines)], data[:1] + b'\1' + data[2:])
+    return field, data

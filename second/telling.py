@@ -1,15 +1,17 @@
-"""Inputs at which a slip of a rounding, of an order of operations or of a bound shows in an answer.
+"""Inputs at which a slip of a rounding, of an order of operations, of a bound or of a comparison shows in an answer.
 
 A slip in step one's order of operations moves a product by a last bit or two. The count of an ordinary product does not change by that; the count
 of a product that is a whole number and a half, or the float next to such a one, does. A slip in which way halves go shows at exact halves
 alone: every rounding meets them of either sign, their whole part even and odd (check.py holds the stored calls to that).
 """
 
-from itertools import cycle, product
+from itertools import combinations, cycle, islice, permutations, product
 from math import asin, floor, inf, nextafter, sqrt
 
 import tides as t
-from given import FAR_OFFSETS, LAST, LEAST_32, MOST_32, MOVE, OFFSET_EDGE, U32, all_set, in_32, placed, spoilt, write_sheet, written
+from given import (
+    FAR_LINES, FAR_OFFSETS, LAST, LEAST_32, MOST_32, MOVE, NONE, OFFSET_EDGE, PLACES, U32, all_set, in_32, placed, spoilt, twinned, write_sheet,
+    written)
 
 # --- Step one ---
 
@@ -433,6 +435,128 @@ def tied_throughout():
     below zero and then above it. With halves up, the first is two counts off."""
     for count in (1 << 24, -(1 << 24)):
         yield write_sheet([(1, 0, 0, 0, 0, 0)], [[-2_500_000]] * 32, [(2, 2, [(count,) * 4] * 32)]), (428289553, 0, 0, 0, 0, 0)
+
+
+# --- Twin lines in a sheet ---
+
+STAIRS = [tuple(n + k for n in (1, -2, 3, -4, 5, -6)) for k in range(5)]        # no two have the same multiplier at any of the six
+FAR_TWINS = (0, 1), (0, 64), (0, 127), (1, 126), (63, 64), (126, 127)           # among 128 lines
+THROUGHOUT = NONE, (13,) * 6, (-13,) * 6
+
+
+def lined(lines, rows=None, places=((1, 1), (2, 2))):
+    """The bytes of a sheet of these lines, rows and places; where no rows are given it has one, whose admittances all differ."""
+    if rows is None:
+        rows = [[(4_000_000 // len(lines) - i) * (-1)**i for i in range(len(lines))]]
+    quad = lambda m: (1 << 24, 7_654_321 if m else 0, -9_876_543, -(1 << 24) if m else 0)
+    return write_sheet(lines, rows, [(n, m, [quad(m)] * len(rows)) for n, m in places])
+
+
+def twin_lists():
+    """Lists of lines with twins: any two of 2 to 5 lines; three; two on either side of a line that is nearly theirs; two and two; the same number six
+    times; and of 128 lines two, three and all."""
+    for count in range(2, 6):
+        for two in combinations(range(count), 2):
+            yield twinned(STAIRS[:count], *two)
+    one, another, third, *_ = STAIRS
+    yield [one] * 3
+    yield [one, another, one, third, one]
+    for between in (*(spoilt(one, i, one[i] + 1) for i in range(6)), one[::-1], [-n for n in one]):
+        yield [one, between, one]
+    yield [one, another, another, one]
+    yield [one, another, one, another]
+    for line in THROUGHOUT:
+        yield [line] * 2
+    for two in FAR_TWINS:
+        yield twinned(FAR_LINES, *two)
+    yield twinned(twinned(FAR_LINES, 0, 63), 0, 127)
+    yield [FAR_LINES[0]] * 128
+
+
+def shared_radix(i):
+    """27 lines that differ in the multipliers i and i + 1 alone. For each radix below 27 the first line and one other have the same sum of multipliers
+    times its rising powers."""
+    lines = [(13, 0), *((13 - radix, 1) for radix in range(1, 27))]
+    return [tuple(spoilt(spoilt(NONE, i, a), i + 1, b)) for a, b in lines]
+
+
+def shared_bits(bits):
+    """Two lines whose sums of multipliers times the rising powers of 27 lie 2^bits apart."""
+    digits = [(1 << bits) // 27**i % 27 for i in range(6)]
+    return [tuple(d - d // 2 for d in digits), tuple(-(d // 2) for d in digits)]
+
+
+def look_alikes():
+    """Lists of lines that all differ: one alone; two that differ in one multiplier, by one and by 26, and 27 by any amount; the same multipliers with
+    other signs, in another order, or written one after another; numbers made of the six that are the same; and 128 of them."""
+    one = STAIRS[0]
+    for line in THROUGHOUT:
+        yield [line]
+    for i in range(6):
+        yield [one, spoilt(one, i, one[i] + 1)]
+        yield [spoilt(one, i, -13), spoilt(one, i, 13)]
+        yield [spoilt(NONE, i, n) for n in range(-13, 14)]
+    for other in ([-n for n in one], [abs(n) for n in one], one[::-1], (*one[1:], one[0])):
+        yield [one, other]
+    for i in range(5):
+        yield [one, (*one[:i], one[i + 1], one[i], *one[i + 2:])]
+    yield [(1, 11, 0, 0, 0, 0), (11, 1, 0, 0, 0, 0)]
+    for shared in (*map(shared_radix, range(5)), [line for bits in (8, 16, 24, 28) for line in shared_bits(bits)]):
+        yield shared
+        yield [line[::-1] for line in shared]
+    yield FAR_LINES
+    yield [*islice(permutations(range(-2, 4)), 128)]
+
+
+def with_count(data, at, count):
+    """The bytes of a sheet with a section's count changed."""
+    return data[:at] + count.to_bytes(2, 'little') + data[at + 2:]
+
+
+def twin_calls():
+    """The number due, a field's degree and the bytes of a sheet: twins and look-alikes; both with other admittances and places; and beside faults of 9,
+    8 and 7. They tell T-09's rule from each with one piece changed (check.py holds them to that)."""
+    for lines in twin_lists():
+        yield 16, 4, lined(lines)
+    for lines in look_alikes():
+        yield 0, 4, lined(lines)
+    one, another, third, *_ = STAIRS
+    twins, apart, a, b = [one, one], [one, another], 1_234_567, -765_432
+    for rows in ([[a, a]], [[a, -a]], [[0, 0]], [[a, 0]], [[0, b]], [[a, a], [a, b]], [[a, b], [b, b]], [[a, b]] * 2, [[a, a], [b, b]], [[0, 0]] * 32):
+        yield 16, 4, lined(twins, rows)
+    for rows in ([[a, b]] * 2, [[a, b], [b, a], [a, b]], [[a, a]], [[a, a], [b, b]], [[a, b], [-a, -b]], [[0, 0]] * 2, [[1, 2]] * 32):
+        yield 0, 4, lined(apart, rows)
+    for places in ([], [(1, 0)], [(1, 1)], [(4, 4)], [place for place in PLACES if place[0] < 5]):
+        yield 16, 4, lined(twins, places=places)
+        yield 0, 4, lined(apart, places=places)
+    yield 16, 4, lined(twinned(FAR_LINES, 0, 127), places=[])
+    yield 16, 4, write_sheet([(2, 0, 0, 0, 0, 0)] * 2, [[500_000] * 2], [(2, 2, [(1000, 0, 0, -500)])])         # P9's line in two halves
+    for N, places in ((4, [(5, 0)]), (4, [(2, 2), (12, 12)]), (11, [(2, 2), (12, 0)])):
+        yield 9, N, lined(apart, places=places)
+        yield 16, N, lined(twins, places=places)
+        yield 16, N, lined([one, another, third, one], places=places)
+        yield 16, 12, lined(twins, places=places)
+    for line in (spoilt(one, 5, 14), (-128,) * 6):
+        yield 8, 4, lined([line] * 2)
+        yield 8, 4, lined([one, one, line])
+        yield 8, 4, lined([line, another, another])
+    for rows in ([[4_000_000, 1]], [[a, a], [b, 4_000_000]], [[LEAST_32, LEAST_32]]):
+        yield 8, 4, lined(twins, rows)
+    for count in (4, 128):                                                      # adds to 0 in 32 bits
+        yield 8, 4, lined([NONE] * count, [[LEAST_32] * count], [])
+    for places in ([(2, 2), (2, 2)], [(2, 1), (2, 2), (2, 1)], [(3, 0), (2, 2)], [(0, 0)], [(13, 0)], [(2, 3)], [(1, 1), (12, 13)], [(5, 0), (5, 0)]):
+        yield 8, 4, lined(twins, places=places)
+    yield 8, 4, lined(apart, places=[(2, 2), (2, 2)])
+    for m, quad in ((2, ((1 << 24) + 1, 0, 0, 0)), (2, (0, 0, 0, -(1 << 24) - 1)), (0, (0, 1, 0, 0)), (0, (0, 0, 0, -1))):
+        yield 8, 4, write_sheet(twins, [[a, b]] * 2, [(1, 1, [(0,) * 4] * 2), (2, m, [(0,) * 4, quad])])
+    sheet = lined([one, another, one])                                          # its counts stand at 0, 20 and 34
+    for data in (sheet[:-1], sheet + b'\0', sheet[:20], sheet[:22], sheet[:36], with_count(sheet, 0, 256 + 3), with_count(sheet, 20, 0),
+                 with_count(sheet, 20, 33), with_count(sheet, 34, 1), with_count(sheet, 34, 91)):
+        yield 7, 4, data
+    for lines, rows in (([one] * 129, None), ([*FAR_LINES, FAR_LINES[0]], None), (twins, []), (twins, [[a, b]] * 33)):
+        yield 7, 4, lined(lines, rows)
+    yield 7, 4, lined(twins, places=[*PLACES, (13, 0)])
+    yield 7, 4, lined([spoilt(one, 5, 14)] * 2, places=[(5, 0), (5, 0)])[:-1]
 
 
 # --- Solid pole tide ---

@@ -1,4 +1,4 @@
-"""Tide corrections to a gravity field: a second program, written from the description (01, and T-01, T-02 and T-04 to T-08 of 02) alone.
+"""Tide corrections to a gravity field: a second program, written from the description (01, and T-01, T-02 and T-04 to T-09 of 02) alone.
 
 Coefficients are whole counts of 10^-15. Every call that can refuse answers the refusal number first, 0 where it accepts.
 Whole numbers and Fractions throughout; floats (IEEE binary64) only in step one.
@@ -7,6 +7,7 @@ Whole numbers and Fractions throughout; floats (IEEE binary64) only in step one.
 import struct
 from collections import namedtuple
 from fractions import Fraction
+from itertools import combinations
 from math import factorial, isfinite, isqrt, ldexp
 
 ELASTIC, ANELASTIC = 'elastic', 'anelastic'
@@ -449,13 +450,23 @@ def values_fit(sheet):
             and all(before < after for before, after in zip(order, order[1:])))
 
 
+def has_twins(lines):
+    """'Twin lines in a sheet' (02, T-09): whether two of the lines, "wherever the two rows stand", have "the same six multipliers".
+
+    It is the "one condition" that "what 01 says of acceptance gains". Rows of admittances may be equal.
+    """
+    return any(one == two for one, two in combinations(lines, 2))
+
+
 def sheet_test(data, N):
-    """'Refusal numbers' 7, 8, 9 of any bytes, for a field of degree N: (number, sheet or None)."""
+    """'Refusal numbers' 7, 8, 16, 9 of any bytes, for a field of degree N: (number, sheet or None). T-09's 16 is "after 8 and before 9"."""
     refusal, sheet = read_sheet(data)
     if refusal:
         return 7, None
     if not values_fit(sheet):
         return 8, None
+    if has_twins(sheet[0]):
+        return 16, None
     if any(n > N for n, _, _ in sheet[2]):
         return 9, None
     return 0, sheet
@@ -496,7 +507,7 @@ def ocean_exact(sheet, phases, frame):
 
 
 def ocean(N, C, S, data, phases, frame):
-    """'Ocean tide' on a field, from the bytes of a sheet: (number, C after, S after); refusals 1, 2, 7, 8, 9."""
+    """'Ocean tide' on a field, from the bytes of a sheet: (number, C after, S after); refusals 1, 2, 7, 8, 16, 9."""
     refusal = field_test(N, C, S)
     if not refusal:
         refusal, sheet = sheet_test(data, N)

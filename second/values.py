@@ -12,7 +12,7 @@ argument, 0..5, and a signed amount in 32 bits, by which it is moved; or a byte 
 hand. The call 7 takes an hour alone and answers its six phases, cosines and sines; the call 4 takes one in place of phases.
 The cases of own_lines, and some of hours, stand in the words that tests/boundary/values.py writes for the C boundary; each call over a field has
 one of its own.
-These are about a thousand cases, which show each call at its edges. tests/boundary/values.py holds the calls to thousands, made when it runs.
+These are more than a thousand cases, which show each call at its edges. tests/boundary/values.py holds the calls to thousands, made when it runs.
 """
 
 import struct
@@ -251,7 +251,7 @@ def beyond_the_range():
 
 
 def sheet_refusals():
-    """7, 8 and 9, and 7 before 8 before 9."""
+    """7, 8 and 9, and 7 before 8 before 9, of sheets without twins."""
     small, zero = write_sheet(*SMALL), [(0,) * 4]
     call = lambda sheet: ocean_tide(sheet, given.phases(chance), chance.one(*FRAMES))
     refuse = lambda sheet, N=5: over_field(N, [1] * t.size(N), [2] * t.size(N), call(sheet))
@@ -421,9 +421,26 @@ def kept():
         tally['solid_tide', 0] += 1
 
 
+# --- Twin lines in a sheet ---
+
+def twins():
+    """Sheets that tell slips, and one of each kind in both frames and twice in a row; 1 and 2 before 16; and any two faults of the ocean tide, and all
+    from any one on: the number that is first in its order."""
+    call = lambda sheet, frame: ocean_tide(sheet, given.phases(chance), frame)
+    for (_, N, sheet), frame in zip(telling.twin_calls(), cycle(FRAMES)):
+        over_field(*given.varied_field(chance, N), call(sheet, frame))
+    for sheet, frame in product((telling.lined([telling.STAIRS[0]] * 2), telling.lined(telling.STAIRS)), FRAMES):
+        one = call(sheet, frame)
+        over_field(*over_field(*given.varied_field(chance, 4), one), one)
+    fields_first(call(telling.lined(given.twinned(telling.STAIRS, 1, 3)), t.FIGURE))
+    for faults in (*combinations(range(6), 2), *(range(first, 6) for first in range(6))):
+        field, sheet = given.ocean_with(chance, faults)
+        over_field(*field, call(sheet, chance.one(*FRAMES)))
+
+
 def make():
     """Every case, in the order in which it is stored."""
-    for part in (numbers, solid, ocean, own, selections, pole, kept):
+    for part in (numbers, solid, ocean, own, selections, pole, kept, twins):
         part()
 
 

@@ -1,4 +1,4 @@
-// A model sheet accepted, or refused with 7, 8 or 9, in that order (document 01).
+// A model sheet accepted, or refused with 7, 8, 16 or 9, in that order (document 01, and 02, T-09).
 ghost use mathlib.Core.Path.{_≡_};
 ghost use Prim.Native.Nat.{_≤_};
 ghost use Rattle.refusals.specs.Numbers.{answerNumber};
@@ -42,14 +42,18 @@ fn is_reached(sheet: &[u8], l: Layout, n: u32) -> bool
     }
 }
 
-// Refusals 7 and 8, of a sheet by itself.
+// Refusals 7, 8 and 16, of a sheet by itself.
 pub fn tested_alone(sheet: &[u8], l: Layout) -> Answer
     requires { ⌜ Laid (now sheet) l ⌝ }
     ensures { λ r. ⌜ answerNumber r ≡ ownRefusal (now (sheet .entry)) ⌝ }
 {
     if is_shaped(sheet, l) {
         if is_valid(sheet, l) {
-            Answer::Accepted
+            if sheet_twins::are_untwinned(sheet, l) {
+                Answer::Accepted
+            } else {
+                Answer::Refused(Refusal::TwinLines)
+            }
         } else {
             Answer::Refused(Refusal::SheetValue)
         }
@@ -58,7 +62,7 @@ pub fn tested_alone(sheet: &[u8], l: Layout) -> Answer
     }
 }
 
-// Refusals 7, 8 and 9, of a sheet for a field of degree n.
+// Refusals 7, 8, 16 and 9, of a sheet for a field of degree n.
 pub fn tested(sheet: &[u8], l: Layout, n: u32) -> Answer
     requires { ⌜ Laid (now sheet) l ⌝ }
     ensures { λ r. ⌜ answerNumber r ≡ sheetRefusal (now (sheet .entry)) n ⌝ }

@@ -1,4 +1,4 @@
--- The calls without a field are refused exactly when the table says: 2 of a C20 to move, 10 and 11 of a Doodson number. And 3 to 6 and 14 of the solid tide, 15 of the pole tide.
+-- The calls without a field are refused exactly when the table says: 2 of a C20 to move, 10 and 11 of a Doodson number. And 3 to 6 and 14 of the solid tide, 15 of the pole tide, 16 of the ocean tide.
 use borrow.Author.Tests.{leb-true, leb-false, le-leb, lt-leb, eq-eqb, ne-eqb}
 use mathlib.Core.Bool.{Bool, true, false, cond, _&&_}
 use mathlib.Core.List.{List, [], _∷_}
@@ -28,7 +28,9 @@ use Rattle.selection.specs.Selection.{names, selectionRefusal}
 use Rattle.selection.proofs.Laws.{no-bit-above}
 use Rattle.step_one.specs.StepOne.{corrections}
 use Rattle.step_one.proofs.Table.{at-most-six}
-use Rattle.surfgimlet.specs.Calls.{solidTideRefusal, poleTideRefusal}
+use Rattle.sheet.specs.Accepted.{sheetRefusal}
+use Rattle.sheet.proofs.Table.{ShapeFault, ValueFault, TwinFault, sheet-table}
+use Rattle.surfgimlet.specs.Calls.{solidTideRefusal, poleTideRefusal, oceanRefusal}
 
 clash : {X : Type 0} → true ≡ false → X
 clash e = absurd (subst T e tt)
@@ -177,3 +179,13 @@ module _ (n : ℕ) (c s : List ℤ) where
       let outer = after-the-field (offsetsRefusal xp yp) 15 (omega arith) in
       let beyond = one-test (isPoleOffset xp && isPoleOffset yp) 15 (omega arith) (within-an-arcsecond xp yp) in
       (λ e. let q = outer .0 e in (q .0, beyond .0 (q .1)), λ q. outer .1 (q .0, beyond .1 (q .1)))
+
+  -- 16: "Such a sheet is to be refused, wherever the two rows stand", "after 8 and before 9"
+  pub sixteen-of-the-ocean-tide : (sheet : List ℕ) → oceanRefusal n c s sheet ≡ 16 ↔ ((fieldRefusal n c s ≡ 0) × (ShapeFault sheet → ⊥) × (ValueFault sheet → ⊥) × TwinFault sheet)
+  unfolding oceanRefusal
+  sixteen-of-the-ocean-tide sheet =
+      let outer = after-the-field (sheetRefusal sheet n) 16 (omega arith) in
+      let inner = sheet-table sheet n .3 in (
+        λ e. let q = outer .0 e in let r = inner .0 (q .1) in (q .0, r .0, r .1, r .2),
+        λ q. outer .1 (q .0, inner .1 (q .1, q .2, q .3)),
+      )

@@ -1,7 +1,7 @@
--- Document 01, "Refusal numbers"; 12 and 13 of 02, T-01, 14 of T-04, and 15 of T-05.
+-- Document 01, "Refusal numbers"; 12 and 13 of 02, T-01, 14 of T-04, 15 of T-05, and 16 of T-09.
 use Prim.Native.Nat.{ℕ}
 use Rattle.refusals.specs.declared.Refusal.{Refusal}
-use Rattle.refusals.specs.declared.Refusal.the-variants.{FieldShape, FieldRange, NotFinite, BodyRange, NotUnit, StepOneRange, SheetLength, SheetValue, SheetDegree, NotDoodson, NoSuchLine, RecordCount, RecordValue, SelectionValue, PoleOffset}
+use Rattle.refusals.specs.declared.Refusal.the-variants.{FieldShape, FieldRange, NotFinite, BodyRange, NotUnit, StepOneRange, SheetLength, SheetValue, SheetDegree, NotDoodson, NoSuchLine, RecordCount, RecordValue, SelectionValue, PoleOffset, TwinLines}
 use Rattle.refusals.specs.declared.Answer.{Answer}
 use Rattle.refusals.specs.declared.Answer.the-variants.{Accepted, Refused}
 
@@ -21,6 +21,7 @@ refusalNumber RecordCount = 12
 refusalNumber RecordValue = 13
 refusalNumber SelectionValue = 14
 refusalNumber PoleOffset = 15
+refusalNumber TwinLines = 16
 
 -- 0 where a call is accepted
 abbrev pub answerNumber : Answer → ℕ

@@ -20,6 +20,7 @@ pub enum Refusal {
     RecordValue,
     SelectionValue,
     PoleOffset,
+    TwinLines,
 }
 
 // The answer of a call whose results stand in lent memory.
@@ -48,6 +49,7 @@ pub fn refusal_number(why: Refusal) -> u32
         Refusal::RecordValue => 13,
         Refusal::SelectionValue => 14,
         Refusal::PoleOffset => 15,
+        Refusal::TwinLines => 16,
     }
 }
 

@@ -1,12 +1,12 @@
 -- A reversed sheet has the factors of the sheet, so that each sum over tides, and each correction, has the other sign; and it is refused as the sheet is, since
--- every test of a coefficient is of its size.
-use mathlib.Core.Bool.{Bool, true, false, cond}
+-- its lines are the sheet's and every test of a coefficient is of its size.
+use mathlib.Core.Bool.{Bool, true, false, cond, not, _||_}
 use mathlib.Core.List.{List, [], _∷_}
 use mathlib.Core.Path.{_≡_, refl, ap, _∙_}
 use Prim.Native.Nat.{ℕ, _+_, _-_, _^_, _<_}
 use native.Mathlib.Omega.{arith}
-use lib.Dec.{leb}
-use lib.IntN.{ℤ, pos, negℤ, natAbs, _+ℤ_, _*ℤ_}
+use lib.Dec.{leb, eqb}
+use lib.IntN.{ℤ, pos, negℤ, natAbs, _+ℤ_, _-ℤ_, _*ℤ_}
 use Rattle.arguments.specs.declared.Phases.{Phases}
 use Rattle.choices.specs.declared.Frame.{Frame}
 use Rattle.field.specs.Field.{fieldRefusal}
@@ -14,12 +14,13 @@ use Rattle.limits.specs.Limits.{isMultiplier, isRowTotal}
 use Rattle.ocean.specs.Ocean.{dC, dS}
 use Rattle.places.specs.Places.{placeSum, skipped, unlessSkipped, correction, indexOf}
 use Rattle.refusals.specs.Outcome.{firstOf}
-use Rattle.sheet.specs.Accepted.{shaped, lineValid, rowValid, countsValid, sZero, placeValid, precedes, ascending, valid, reached, ownRefusal, sheetRefusal}
+use Rattle.sheet.specs.Accepted.{shaped, lineValid, rowValid, countsValid, sZero, placeValid, precedes, ascending, valid, twins, untwinned, reached, ownRefusal, sheetRefusal}
 use Rattle.sheet.specs.Sheet.{lineCount, tideCount, placeCount, multiplier, multipliers, admittance, degree, coefficient}
 use Rattle.surfgimlet.specs.Calls.{oceanRefusal, oceanTide}
 use Rattle.tides.specs.Tides.{linePhase, lineSum, factor, fcos, fsin}
 use Rattle.wave.specs.Wave.{sin, cos}
 use Rattle.whole.specs.Nearest.{nearest}
+use Rattle.whole.specs.Sum.{allTo}
 use Rattle.whole.proofs.Counted.{all-same, weight-same}
 use Rattle.whole.proofs.Parts.{abs-neg}
 use Rattle.whole.proofs.Ring.{equal, !, ⊝, _⊕_, _⊗_}
@@ -114,6 +115,19 @@ module _ {s t : List ℕ} (r : Reversed s t) where
       (r .lines, r .tides, r .places, all-same (lineValid t) (lineValid s) (lineCount s) lines-same, all-same (rowValid t) (rowValid s) (tideCount s) rows-same, all-same (placeValid t) (placeValid s) (placeCount s) places-same, ascending-same)
       refl
 
+  twins-same : (e f : ℕ) → e < lineCount s → f < lineCount s → twins t e f ≡ twins s e f
+  unfolding twins
+  twins-same e f h g =
+      all-same (λ i. eqb (natAbs (multiplier t e i -ℤ multiplier t f i)) 0) (λ i. eqb (natAbs (multiplier s e i -ℤ multiplier s f i)) 0) 6
+      (λ i q. rw (r .line e i h q, r .line f i g q) refl)
+
+  untwinned-same : untwinned t ≡ untwinned s
+  unfolding untwinned
+  untwinned-same =
+      rw (r .lines)
+      (all-same (λ e. allTo (λ f. eqb e f || not (twins t e f)) (lineCount s)) (λ e. allTo (λ f. eqb e f || not (twins s e f)) (lineCount s)) (lineCount s)
+      (λ e h. all-same (λ f. eqb e f || not (twins t e f)) (λ f. eqb e f || not (twins s e f)) (lineCount s) (λ f g. ap (λ (b : Bool). eqb e f || not b) (twins-same e f h g))))
+
   reached-same : (n : ℕ) → reached t n ≡ reached s n
   unfolding reached
   reached-same n =
@@ -121,7 +135,7 @@ module _ {s t : List ℕ} (r : Reversed s t) where
 
   pub sheet-refused : (n : ℕ) → sheetRefusal t n ≡ sheetRefusal s n
   unfolding sheetRefusal ownRefusal
-  sheet-refused n = rw (shaped-same, valid-same, reached-same n) refl
+  sheet-refused n = rw (shaped-same, valid-same, untwinned-same, reached-same n) refl
 
   -- ---- the call
   index-same : (j : ℕ) → j < placeCount s → indexOf t j ≡ indexOf s j

@@ -14,7 +14,7 @@ use Rattle.field.specs.Field.{place}
 use Rattle.whole.proofs.Tests.{and-left, and-right, both-ends}
 use Rattle.limits.specs.Limits.{isLineCount, isTideCount, isPlaceCount, isMultiplier, isSheetDegree}
 use Rattle.sheet.specs.Sheet.{lineCount, tideCount, placeCount, sheetEnd, multiplier, admittance, degree, order, sCos, sSin, coefficient}
-use Rattle.sheet.specs.Accepted.{shaped, lineValid, rowValid, countsValid, sZero, placeValid, precedes, ascending, valid, reached, ownRefusal, sheetRefusal}
+use Rattle.sheet.specs.Accepted.{shaped, lineValid, rowValid, countsValid, sZero, placeValid, precedes, ascending, valid, untwinned, reached, ownRefusal, sheetRefusal}
 use Rattle.sheet.specs.declared.Layout.{Layout}
 use Rattle.sheet.specs.Inner.{Whole, Passed}
 use Rattle.refusals.proofs.Outcomes.{first-none}
@@ -33,7 +33,7 @@ kept true x n e = (refl, e)
 kept false x n e = absurd (omega arith)
 
 -- two tests that pass together
-same-test : (a b : Bool) → (a ≡ true → b ≡ true) → (b ≡ true → a ≡ true) → a ≡ b
+pub same-test : (a b : Bool) → (a ≡ true → b ≡ true) → (b ≡ true → a ≡ true) → a ≡ b
 same-test true b f g = sym (f refl)
 same-test false true f g = g refl
 same-test false false f g = refl
@@ -141,6 +141,10 @@ values s e =
       before = λ j h. before s j (j + 1) (all-at (λ i. precedes s i (i + 1)) (placeCount s - 1) (t .3) j (omega arith));
     }
 
+pub valid-lines : (s : List ℕ) → valid s ≡ true → allTo (lineValid s) (lineCount s) ≡ true
+unfolding valid
+valid-lines s e = four (allTo (lineValid s) (lineCount s)) (allTo (rowValid s) (tideCount s)) (allTo (placeValid s) (placeCount s)) (ascending s) e .0
+
 -- ---- both
 -- where place j of the sheet stands in a list
 abbrev pub index : List ℕ → ℕ → ℕ
@@ -168,8 +172,8 @@ pub record Accepted (s : List ℕ) : Type 0 where
 pub accepted : (s : List ℕ) → ownRefusal s ≡ 0 → Accepted s
 unfolding ownRefusal
 accepted s e =
-    let a = kept (shaped s) (cond (valid s) 0 8) 6 e in
-    let v = values s (kept (valid s) 0 7 (a .1) .0) in
+    let a = kept (shaped s) (cond (valid s) (cond (untwinned s) 0 16) 8) 6 e in
+    let v = values s (kept (valid s) (cond (untwinned s) 0 16) 7 (a .1) .0) in
     record {
       shape = shape s (a .0);
       line = v .line;

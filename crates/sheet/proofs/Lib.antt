@@ -1,5 +1,6 @@
 pub mod Signs
 pub mod Offsets
 pub mod Flat
+pub mod Twins
 pub mod Acceptance
 pub mod Table

@@ -1,11 +1,11 @@
--- Refusals 7, 8 and 9 are given exactly when 01's table says.
-use mathlib.Core.Bool.{Bool, true, false, cond, _&&_, _||_}
+-- Refusals 7, 8 and 9 are given exactly when 01's table says, and 16 between 8 and 9 exactly when two lines are twins.
+use mathlib.Core.Bool.{Bool, true, false, cond, not, _&&_, _||_}
 use mathlib.Core.List.{List}
 use mathlib.Core.Logic.{_↔_}
 use mathlib.Core.Path.{_≡_, refl, sym, ap, subst, _∙_}
 use Prim.Native.Nat.{ℕ, zero, suc, _+_, _-_, _^_, _≤_, _<_}
 use native.Mathlib.Omega.{arith}
-use borrow.Author.Tests.{leb-true, leb-false, ltb-false, eqb-false, lt-ltb, le-ltb, eq-eqb}
+use borrow.Author.Tests.{leb-true, leb-false, ltb-false, eqb-false, lt-ltb, le-ltb, eq-eqb, ne-eqb}
 use lib.Dec.{T, leb, ltb, eqb}
 use lib.IntN.{ℤ, pos, natAbs}
 use lib.ListN.{length}
@@ -13,8 +13,9 @@ use Rattle.whole.specs.Sum.{weightTo, allTo}
 use Rattle.whole.proofs.Counted.{all-at}
 use Rattle.limits.specs.Limits.{isLineCount, isTideCount, isPlaceCount, isMultiplier, isSheetDegree, isCoefficient}
 use Rattle.refusals.specs.Outcome.{firstOf}
-use Rattle.sheet.specs.Sheet.{lineCount, tideCount, placeCount, sheetEnd, multiplier, admittance, degree, order, sCos, sSin, coefficient}
-use Rattle.sheet.specs.Accepted.{shaped, lineValid, rowValid, countsValid, sZero, placeValid, precedes, ascending, valid, reached, ownRefusal, sheetRefusal}
+use Rattle.sheet.specs.Sheet.{lineCount, tideCount, placeCount, sheetEnd, multiplier, multipliers, admittance, degree, order, sCos, sSin, coefficient}
+use Rattle.sheet.specs.Accepted.{shaped, lineValid, rowValid, countsValid, sZero, placeValid, precedes, ascending, valid, twins, untwinned, reached, ownRefusal, sheetRefusal}
+use Rattle.sheet.proofs.Twins.{twins-same, same-twins}
 use Rattle.sheet.proofs.Acceptance.{Shape, shape, Before, Valid, values}
 use Rattle.sheet.proofs.Acceptance.Before.{by-degree, by-order}
 
@@ -38,6 +39,10 @@ pub data ValueFault (s : List ℕ) : Type 0 where
   s-cos-not-zero : (j k : ℕ) → j < placeCount s → k < tideCount s → order s j ≡ 0 → (coefficient s j k sCos ≡ pos 0 → ⊥) → ValueFault s
   s-sin-not-zero : (j k : ℕ) → j < placeCount s → k < tideCount s → order s j ≡ 0 → (coefficient s j k sSin ≡ pos 0 → ⊥) → ValueFault s
   not-ascending : (j : ℕ) → j + 1 < placeCount s → (Before s j (j + 1) → ⊥) → ValueFault s
+
+-- 16: "the same six multipliers in two rows"
+pub data TwinFault (s : List ℕ) : Type 0 where
+  twin-lines : (e f : ℕ) → e < lineCount s → f < lineCount s → (e ≡ f → ⊥) → multipliers s e ≡ multipliers s f → TwinFault s
 
 -- 9: "a place of degree above N"
 pub data DegreeFault (s : List ℕ) (n : ℕ) : Type 0 where
@@ -70,6 +75,10 @@ module _ {X : Type 0} where
 or-fails : (a b : Bool) → (a || b) ≡ false → (a ≡ false) × (b ≡ false)
 or-fails true b e = clash e
 or-fails false b e = (refl, e)
+
+not-fails : (a : Bool) → not a ≡ false → a ≡ true
+not-fails true e = refl
+not-fails false e = clash e
 
 -- ---- each test fails exactly where its fault is
 shape-fault : (s : List ℕ) → shaped s ≡ false → ShapeFault s
@@ -131,6 +140,19 @@ no-values (s-cos-not-zero j k l m z f) v = f (v .places j l .tide k m .s-cos z)
 no-values (s-sin-not-zero j k l m z f) v = f (v .places j l .tide k m .s-sin z)
 no-values (not-ascending j l f) v = f (v .before j l)
 
+twin-fault : (s : List ℕ) → untwinned s ≡ false → TwinFault s
+unfolding untwinned
+twin-fault s x =
+    all-fails (λ e. allTo (λ f. eqb e f || not (twins s e f)) (lineCount s)) (lineCount s) x
+    (λ e l y. all-fails (λ f. eqb e f || not (twins s e f)) (lineCount s) y
+    (λ f m z. let o = or-fails (eqb e f) (not (twins s e f)) z in twin-lines e f l m (eqb-false e f (o .0)) (twins-same s e f (not-fails (twins s e f) (o .1)))))
+
+no-twins : {s : List ℕ} → TwinFault s → untwinned s ≡ true → ⊥
+unfolding untwinned
+no-twins {s} (twin-lines e f l m other same) x =
+    let either = all-at (λ i. eqb e i || not (twins s e i)) (lineCount s) (all-at (λ i. allTo (λ j. eqb i j || not (twins s i j)) (lineCount s)) (lineCount s) x e l) f m in
+    clash (sym (rw (ne-eqb e f other, same-twins s e f same) at either))
+
 degree-fault : (s : List ℕ) (n : ℕ) → reached s n ≡ false → DegreeFault s n
 unfolding reached
 degree-fault s n e = all-fails (λ j. leb (degree s j) n) (placeCount s) e (λ j l x. above j l (leb-false (degree s j) n x))
@@ -139,51 +161,68 @@ no-degrees : {s : List ℕ} {n : ℕ} → DegreeFault s n → reached s n ≡ tr
 unfolding reached
 no-degrees {s} {n} (above j l h) e = omega (arith, leb-true (degree s j) n (all-at (λ i. leb (degree s i) n) (placeCount s) e j l))
 
--- ---- of three tests in their order, each with its fault
+-- ---- of four tests in their order, each with its fault
 free : {F : Type 0} → true ≡ false ↔ F → F → ⊥
 free p f = clash (p .1 f)
 
-module _ {A B C : Type 0} where
-  in-order : (a b c : Bool) → a ≡ false ↔ A → b ≡ false ↔ B → c ≡ false ↔ C
-      → (_≡_ {A = ℕ} (firstOf (cond a (cond b 0 8) 7) (cond c 0 9)) 0 ↔ ((A → ⊥) × (B → ⊥) × (C → ⊥)))
-      × (_≡_ {A = ℕ} (firstOf (cond a (cond b 0 8) 7) (cond c 0 9)) 7 ↔ A)
-      × (_≡_ {A = ℕ} (firstOf (cond a (cond b 0 8) 7) (cond c 0 9)) 8 ↔ ((A → ⊥) × B))
-      × (_≡_ {A = ℕ} (firstOf (cond a (cond b 0 8) 7) (cond c 0 9)) 9 ↔ ((A → ⊥) × (B → ⊥) × C))
+abbrev first : Bool → Bool → Bool → Bool → ℕ
+first a b c d = firstOf (cond a (cond b (cond c 0 16) 8) 7) (cond d 0 9)
+
+module _ {A B C D : Type 0} where
+  in-order : (a b c d : Bool) → a ≡ false ↔ A → b ≡ false ↔ B → c ≡ false ↔ C → d ≡ false ↔ D
+      → (first a b c d ≡ 0 ↔ ((A → ⊥) × (B → ⊥) × (C → ⊥) × (D → ⊥)))
+      × (first a b c d ≡ 7 ↔ A)
+      × (first a b c d ≡ 8 ↔ ((A → ⊥) × B))
+      × (first a b c d ≡ 16 ↔ ((A → ⊥) × (B → ⊥) × C))
+      × (first a b c d ≡ 9 ↔ ((A → ⊥) × (B → ⊥) × (C → ⊥) × D))
   unfolding firstOf
-  in-order true true true p q r = (
-    (λ e. (free p, free q, free r), λ h. refl),
-    (λ e. absurd (omega arith), λ h. absurd (free p h)),
+  in-order true true true true p q t r = (
+    (λ e. (free p, free q, free t, free r), λ h. refl),
+    (λ e. absurd (omega arith), λ h. absurd (free p (h))),
     (λ e. absurd (omega arith), λ h. absurd (free q (h .1))),
-    (λ e. absurd (omega arith), λ h. absurd (free r (h .2))),
+    (λ e. absurd (omega arith), λ h. absurd (free t (h .2))),
+    (λ e. absurd (omega arith), λ h. absurd (free r (h .3))),
   )
-  in-order true true false p q r = (
-    (λ e. absurd (omega arith), λ h. absurd (h .2 (r .0 refl))),
-    (λ e. absurd (omega arith), λ h. absurd (free p h)),
+  in-order true true true false p q t r = (
+    (λ e. absurd (omega arith), λ h. absurd (h .3 (r .0 refl))),
+    (λ e. absurd (omega arith), λ h. absurd (free p (h))),
     (λ e. absurd (omega arith), λ h. absurd (free q (h .1))),
-    (λ e. (free p, free q, r .0 refl), λ h. refl),
+    (λ e. absurd (omega arith), λ h. absurd (free t (h .2))),
+    (λ e. (free p, free q, free t, r .0 refl), λ h. refl),
   )
-  in-order true false c p q r = (
+  in-order true true false d p q t r = (
+    (λ e. absurd (omega arith), λ h. absurd (h .2 (t .0 refl))),
+    (λ e. absurd (omega arith), λ h. absurd (free p (h))),
+    (λ e. absurd (omega arith), λ h. absurd (free q (h .1))),
+    (λ e. (free p, free q, t .0 refl), λ h. refl),
+    (λ e. absurd (omega arith), λ h. absurd (h .2 (t .0 refl))),
+  )
+  in-order true false c d p q t r = (
     (λ e. absurd (omega arith), λ h. absurd (h .1 (q .0 refl))),
-    (λ e. absurd (omega arith), λ h. absurd (free p h)),
+    (λ e. absurd (omega arith), λ h. absurd (free p (h))),
     (λ e. (free p, q .0 refl), λ h. refl),
     (λ e. absurd (omega arith), λ h. absurd (h .1 (q .0 refl))),
+    (λ e. absurd (omega arith), λ h. absurd (h .1 (q .0 refl))),
   )
-  in-order false b c p q r = (
+  in-order false b c d p q t r = (
     (λ e. absurd (omega arith), λ h. absurd (h .0 (p .0 refl))),
     (λ e. p .0 refl, λ h. refl),
     (λ e. absurd (omega arith), λ h. absurd (h .0 (p .0 refl))),
     (λ e. absurd (omega arith), λ h. absurd (h .0 (p .0 refl))),
+    (λ e. absurd (omega arith), λ h. absurd (h .0 (p .0 refl))),
   )
 
--- 0: nothing; 7, 8 and 9: its own fault, and none of a lower number
+-- 0: nothing; 7, 8, 16 and 9: its own fault, and none that comes before it
 pub sheet-table : (s : List ℕ) (n : ℕ)
-    → (sheetRefusal s n ≡ 0 ↔ ((ShapeFault s → ⊥) × (ValueFault s → ⊥) × (DegreeFault s n → ⊥)))
+    → (sheetRefusal s n ≡ 0 ↔ ((ShapeFault s → ⊥) × (ValueFault s → ⊥) × (TwinFault s → ⊥) × (DegreeFault s n → ⊥)))
     × (sheetRefusal s n ≡ 7 ↔ ShapeFault s)
     × (sheetRefusal s n ≡ 8 ↔ ((ShapeFault s → ⊥) × ValueFault s))
-    × (sheetRefusal s n ≡ 9 ↔ ((ShapeFault s → ⊥) × (ValueFault s → ⊥) × DegreeFault s n))
+    × (sheetRefusal s n ≡ 16 ↔ ((ShapeFault s → ⊥) × (ValueFault s → ⊥) × TwinFault s))
+    × (sheetRefusal s n ≡ 9 ↔ ((ShapeFault s → ⊥) × (ValueFault s → ⊥) × (TwinFault s → ⊥) × DegreeFault s n))
 unfolding sheetRefusal ownRefusal
 sheet-table s n =
-    in-order (shaped s) (valid s) (reached s n)
+    in-order (shaped s) (valid s) (untwinned s) (reached s n)
     (shape-fault s, λ f. refuted (shaped s) (λ e. no-shape f (shape s e)))
     (value-fault s, λ f. refuted (valid s) (λ e. no-values f (values s e)))
+    (twin-fault s, λ f. refuted (untwinned s) (no-twins f))
     (degree-fault s n, λ f. refuted (reached s n) (no-degrees f))

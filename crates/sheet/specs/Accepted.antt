@@ -1,9 +1,9 @@
--- Document 01, "Model sheet and ocean tide" and refusals 7, 8 and 9: the sheet that is accepted.
-use mathlib.Core.Bool.{Bool, cond, _&&_, _||_}
+-- Document 01, "Model sheet and ocean tide" and refusals 7, 8 and 9, and document 02, T-09, refusal 16: the sheet that is accepted.
+use mathlib.Core.Bool.{Bool, cond, not, _&&_, _||_}
 use mathlib.Core.List.{List}
 use Prim.Native.Nat.{ℕ, _+_, _-_}
 use lib.Dec.{leb, ltb, eqb}
-use lib.IntN.{natAbs}
+use lib.IntN.{natAbs, _-ℤ_}
 use lib.ListN.{length}
 use Rattle.limits.specs.Limits.{isLineCount, isTideCount, isPlaceCount, isMultiplier, isRowTotal, isSheetDegree, isCoefficient}
 use Rattle.refusals.specs.Outcome.{firstOf}
@@ -54,14 +54,22 @@ ascending s = allTo (λ j. precedes s j (j + 1)) (placeCount s - 1)
 unfoldable pub valid : List ℕ → Bool
 valid s = allTo (lineValid s) (lineCount s) && allTo (rowValid s) (tideCount s) && allTo (placeValid s) (placeCount s) && ascending s
 
+-- ---- 16: "the same six multipliers in two rows", "wherever the two rows stand"
+unfoldable pub twins : List ℕ → ℕ → ℕ → Bool
+twins s e f = allTo (λ i. eqb (natAbs (multiplier s e i -ℤ multiplier s f i)) 0) 6
+
+-- of any two lines, one is the other or they are no twins
+unfoldable pub untwinned : List ℕ → Bool
+untwinned s = allTo (λ e. allTo (λ f. eqb e f || not (twins s e f)) (lineCount s)) (lineCount s)
+
 -- ---- 9: "a place of degree above N"
 unfoldable pub reached : List ℕ → ℕ → Bool
 reached s n = allTo (λ j. leb (degree s j) n) (placeCount s)
 
--- ---- "The lowest number that applies to a call is answered", 0 where none does
+-- ---- "The lowest number that applies to a call is answered", but 16 "after 8 and before 9"; 0 where none does
 -- what refuses a sheet by itself
 unfoldable pub ownRefusal : List ℕ → ℕ
-ownRefusal s = cond (shaped s) (cond (valid s) 0 8) 7
+ownRefusal s = cond (shaped s) (cond (valid s) (cond (untwinned s) 0 16) 8) 7
 
 -- what refuses it for a field of degree n
 unfoldable pub sheetRefusal : List ℕ → ℕ → ℕ

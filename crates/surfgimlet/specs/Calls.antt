@@ -70,7 +70,7 @@ poleTide n c s xp yp love =
     let d = poleCorrections xp yp love in
     unlessRefused (poleTideRefusal n c s xp yp) c s (corrected c (place 2 1) (d .c21)) (corrected s (place 2 1) (d .s21))
 
--- ---- ocean tide: refusals 1, 2, then the sheet's 7, 8, 9
+-- ---- ocean tide: refusals 1, 2, then the sheet's 7, 8, 16, 9
 unfoldable pub oceanRefusal : ℕ → List ℤ → List ℤ → List ℕ → ℕ
 oceanRefusal n c s sheet = firstOf (fieldRefusal n c s) (sheetRefusal sheet n)
 

@@ -165,7 +165,7 @@ pub fn pole_tide(n: u32, c: &mut [i64], s: &mut [i64], xp: i64, yp: i64, love: L
 // Ocean tide (002; document 01, "Model sheet and ocean tide").
 // Given: a field, a model sheet's bytes, six phases, the frame.
 // Done: the sheet's corrections are added at its places, degree 1 skipped in the centre-of-mass frame.
-// Refused: 1, 2, then the sheet's 7, 8, 9.
+// Refused: 1, 2, then the sheet's 7, 8, 16, 9.
 pub fn ocean_tide(
     n: u32,
     c: &mut [i64],
