@@ -10,7 +10,7 @@ module surfgimlet
     public :: solid_tide, all_lines, major_lines, own_lines, pole_tide, ocean_tide, move_c20
     public :: multipliers_of, number_of, find_line
 
-    integer(c_int32_t), parameter, public :: header_version = 4000000
+    integer(c_int32_t), parameter, public :: header_version = 4001000
     integer(c_int32_t), parameter, public :: elastic = 0, anelastic = 1
     integer(c_int32_t), parameter, public :: centre_of_figure = 0, centre_of_mass = 1
     integer(c_int32_t), parameter, public :: tide_free = 0, zero_tide = 1, mean_tide = 2
@@ -205,6 +205,7 @@ contains
         case (13); words = "an own line has a multiplier outside -13..13, a first one not 0, 1 or 2, or an amplitude beyond 100,000"
         case (14); words = "the selection has a bit above 48, which stands for no line"
         case (15); words = "a pole offset is outside -1,000,000..1,000,000 micro-arcseconds"
+        case (16); words = "two lines of the sheet have the same six multipliers"
         case (100); words = "a choice, a body's kind or an argument is none of its numbers"
         case default; words = "no answer of this unit"
         end select

@@ -13,7 +13,7 @@ from array import array
 from collections import namedtuple
 from ctypes import POINTER, byref, c_double, c_int32, c_int64, c_size_t, c_uint8, c_uint32, c_uint64
 
-VERSION = 4000000
+VERSION = 4001000
 ELASTIC, ANELASTIC = 0, 1
 CENTRE_OF_FIGURE, CENTRE_OF_MASS = 0, 1
 TIDE_FREE, ZERO_TIDE, MEAN_TIDE = 0, 1, 2
@@ -37,6 +37,7 @@ WORDS = {
     13: "an own line has a multiplier outside -13..13, a first one not 0, 1 or 2, or an amplitude beyond 100,000",
     14: "the selection has a bit above 48, which stands for no line",
     15: "a pole offset is outside -1,000,000..1,000,000 micro-arcseconds",
+    16: "two lines of the sheet have the same six multipliers",
     100: "a choice, a body's kind or an argument is none of its numbers",
 }
 

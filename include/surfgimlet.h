@@ -32,7 +32,7 @@
 #include <stdint.h>
 
 /* major * 1,000,000 + minor * 1,000 + patch; surfgimlet_version answers that of the library. */
-#define SURFGIMLET_VERSION 4000000
+#define SURFGIMLET_VERSION 4001000
 
 /* Where the compiler can, it warns of an answer that is not used. */
 #if defined(__cplusplus) && __cplusplus >= 201703L
@@ -60,6 +60,7 @@
 #define SURFGIMLET_RECORD_VALUE 13u
 #define SURFGIMLET_SELECTION_VALUE 14u
 #define SURFGIMLET_POLE_OFFSET 15u
+#define SURFGIMLET_TWIN_LINES 16u
 #define SURFGIMLET_NO_SUCH_CHOICE 100u
 
 static inline const char *surfgimlet_words(uint32_t answer)
@@ -81,6 +82,7 @@ static inline const char *surfgimlet_words(uint32_t answer)
     case SURFGIMLET_RECORD_VALUE: return "an own line has a multiplier outside -13..13, a first one not 0, 1 or 2, or an amplitude beyond 100,000";
     case SURFGIMLET_SELECTION_VALUE: return "the selection has a bit above 48, which stands for no line";
     case SURFGIMLET_POLE_OFFSET: return "a pole offset is outside -1,000,000..1,000,000 micro-arcseconds";
+    case SURFGIMLET_TWIN_LINES: return "two lines of the sheet have the same six multipliers";
     case SURFGIMLET_NO_SUCH_CHOICE: return "a choice, a body's kind or an argument is none of its numbers";
     default: return "no answer of this unit";
     }
@@ -202,13 +204,13 @@ SURFGIMLET_ANSWER uint32_t surfgimlet_pole_tide(uint32_t n, int64_t *c, size_t c
                                                 int64_t xp, int64_t yp, uint32_t love_model);
 
 /* Ocean tide of a model sheet. All numbers of a sheet are little-endian, each section comes after its 16-bit count:
- *   lines (1..128): six signed bytes, the multipliers, each -13..13;
+ *   lines (1..128): six signed bytes, the multipliers, each -13..13, no two lines with the same six;
  *   tides (1..32): one signed 32-bit admittance per line, in millionths, their sizes adding to at most 4,000,000;
  *   places (0..90): degree byte 1..12, order byte at most the degree, ascending by degree, then order; then per tide
  *     four signed 32-bit counts, C cos, S cos, C sin, S sin, each within 2^24, those of S 0 at order 0.
  * Given: a field in counts, n its degree, the lengths in entries; a sheet and its length in bytes; the phases; a frame.
  * Done: the sheet's corrections are added at its places; with the centre of mass, degree 1 keeps its values.
- * Refused: 100; 1, 2; 7, 8, 9. */
+ * Refused: 100; 1, 2; 7, 8, 16, 9. */
 SURFGIMLET_ANSWER uint32_t surfgimlet_ocean_tide(uint32_t n, int64_t *c, size_t c_length, int64_t *s, size_t s_length,
                                                  const uint8_t *sheet, size_t sheet_length, surfgimlet_phases phases,
                                                  uint32_t frame);
