@@ -41,7 +41,7 @@ mul-is-among : tie.Need-mul-is-among Inv-loop μ-loop
 mul-is-among c = omega (arith, most c)
 
 is-among-requires : tie.Need-is-among-requires Inv-loop μ-loop
-is-among-requires c κs = (c .before .before .before .fill-keys .ensures .length, most c)
+is-among-requires c κs = (c .before .before .before .fill-keys .ensures .length, omega (arith, most c))
 
 add-f : tie.Need-add-f Inv-loop μ-loop
 add-f c = search needs
