@@ -3,7 +3,7 @@
     python3 sheet.py bytes TABLE SHEET        python3 sheet.py table SHEET TABLE
 
 Decimals are taken exactly and rounded once to the nearest millionth or count, a half away from zero. Places are put in order. Whether the sheet keeps the
-unit's limits is for the unit to say: `ocean_tide` answers 7, 8 or 9.
+unit's limits is for the unit to say: `ocean_tide` answers 7, 8, 16 or 9.
 """
 import math
 import struct

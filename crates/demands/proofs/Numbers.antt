@@ -1,12 +1,12 @@
 -- The calls without a field are refused exactly when the table says: 2 of a C20 to move, 10 and 11 of a Doodson number. And 3 to 6 and 14 of the solid tide, 15 of the pole tide, 16 of the ocean tide.
 use borrow.Author.Tests.{leb-true, leb-false, le-leb, lt-leb, eq-eqb, ne-eqb}
-use mathlib.Core.Bool.{Bool, true, false, cond, _&&_}
+use mathlib.Core.Bool.{Bool, true, false, true≢false, cond, _&&_}
 use mathlib.Core.List.{List, [], _∷_}
 use mathlib.Core.Logic.{_↔_}
-use mathlib.Core.Path.{_≡_, refl, sym, ap, subst, _∙_}
+use mathlib.Core.Path.{_≡_, refl, sym, ap, _∙_}
 use Prim.Native.Nat.{ℕ, zero, suc, _+_, _^_, _≤_, _<_}
 use native.Mathlib.Omega.{arith}
-use lib.Dec.{T, eqb}
+use lib.Dec.{eqb}
 use lib.IntN.{ℤ, natAbs}
 use lib.ListN.{length, getD}
 use Rattle.arguments.specs.declared.Multipliers.{Multipliers}
@@ -32,12 +32,9 @@ use Rattle.sheet.specs.Accepted.{sheetRefusal}
 use Rattle.sheet.proofs.Table.{ShapeFault, ValueFault, TwinFault, sheet-table}
 use Rattle.surfgimlet.specs.Calls.{solidTideRefusal, poleTideRefusal, oceanRefusal}
 
-clash : {X : Type 0} → true ≡ false → X
-clash e = absurd (subst T e tt)
-
 -- a value, or a refusal where a test fails
 told-refused : {A : Type 0} (b : Bool) (x : A) (k : ℕ) → (k ≡ 0 → ⊥) → cond b (accepted x) (refused k) ≡ refused k ↔ (b ≡ false)
-told-refused true x k h = (λ e. absurd (h (sym (ap toldNumber e))), λ f. clash f)
+told-refused true x k h = (λ e. absurd (h (sym (ap toldNumber e))), λ f. absurd (true≢false f))
 told-refused false x k h = (λ e. refl, λ f. refl)
 
 -- 2: "a C20 to convert, outside the range"
@@ -71,7 +68,7 @@ module _ (number : ℕ) where
       by-test : (b : Bool) → eqb (l .number) number ≡ b → cond {A = Told Found} b (accepted (record { index = i; first = l .first; second = l .second })) (soughtFrom number (i + 1) ls) ≡ refused 11
           → (soughtFrom number (i + 1) ls ≡ refused 11 → Nowhere ls) → Nowhere (l ∷ ls)
       by-test true t e more j h q = absurd (let z = ap toldNumber e in omega (arith, z))
-      by-test false t e more zero h q = clash (sym (eq-eqb (l .number) number q) ∙ t)
+      by-test false t e more zero h q = absurd (true≢false (sym (eq-eqb (l .number) number q) ∙ t))
       by-test false t e more (suc j) h q = more e j (omega arith) q
 
   none-found : (i : ℕ) (ls : List Printed) → Nowhere ls → soughtFrom number i ls ≡ refused 11

@@ -1,12 +1,12 @@
 -- An outcome by its number, and the first of two refusals.
 use mathlib.Core.Path.{_≡_, refl, sym, ap, subst, _∙_}
-use mathlib.Core.Bool.{Bool, true, false, cond}
+use mathlib.Core.Bool.{Bool, true, false, false≢true, cond}
 use mathlib.Core.List.{List}
 use mathlib.Core.Logic.{_↔_}
 use Prim.Native.Nat.{ℕ, zero, suc, _<_}
 use native.Mathlib.Omega.{arith}
 use borrow.Author.Tests.{eqb-true, ne-eqb}
-use lib.Dec.{T, eqb}
+use lib.Dec.{eqb}
 use lib.IntN.{ℤ}
 use Rattle.refusals.specs.Outcome.{firstOf, unlessRefused, toldUnless, Outcome, Gives, GivesValue}
 use Rattle.refusals.specs.Told.{Told}
@@ -70,9 +70,6 @@ first-none zero b e = (refl, sym (first-passed 0 b refl) ∙ e)
 first-none (suc a) b e = absurd (let z : suc a ≡ 0 = sym (first-kept (suc a) b (λ q. omega arith)) ∙ e in omega arith)
 
 -- ---- two tests in their order, the first answered by x and the second by y: each number exactly when
-clash : {X : Type 0} → true ≡ false → X
-clash e = absurd (subst T e tt)
-
 module _ {A B : Type 0} (x y : ℕ) (x-some : 0 < x) (y-some : 0 < y) (apart : x ≡ y → ⊥) where
   pub two-tests : (a b : Bool) → a ≡ true ↔ A → b ≡ true ↔ B
       → (cond a (cond b 0 y) x ≡ 0 ↔ (A × B)) × (cond a (cond b 0 y) x ≡ x ↔ (A → ⊥)) × (cond a (cond b 0 y) x ≡ y ↔ (A × (B → ⊥)))
@@ -82,12 +79,12 @@ module _ {A B : Type 0} (x y : ℕ) (x-some : 0 < x) (y-some : 0 < y) (apart : x
     (λ e. absurd (omega (arith, e)), λ h. absurd (h .1 (q .0 refl))),
   )
   two-tests true false p q = (
-    (λ e. absurd (omega (arith, e)), λ h. clash (sym (q .1 (h .1)))),
+    (λ e. absurd (omega (arith, e)), λ h. absurd (false≢true (q .1 (h .1)))),
     (λ e. absurd (apart (sym e)), λ h. absurd (h (p .0 refl))),
-    (λ e. (p .0 refl, λ b. clash (sym (q .1 b))), λ h. refl),
+    (λ e. (p .0 refl, λ b. false≢true (q .1 b)), λ h. refl),
   )
   two-tests false b p q = (
-    (λ e. absurd (omega (arith, e)), λ h. clash (sym (p .1 (h .0)))),
-    (λ e a. clash (sym (p .1 a)), λ h. refl),
-    (λ e. absurd (apart e), λ h. clash (sym (p .1 (h .0)))),
+    (λ e. absurd (omega (arith, e)), λ h. absurd (false≢true (p .1 (h .0)))),
+    (λ e a. false≢true (p .1 a), λ h. refl),
+    (λ e. absurd (apart e), λ h. absurd (false≢true (p .1 (h .0)))),
   )

@@ -124,6 +124,10 @@ before s i j e = by-test (ltb (degree s i) (degree s j)) refl
         let r : (same && less) ≡ true = subst (λ (b : Bool). (b || same && less) ≡ true) l e in
         by-order (eqb-true (degree s i) (degree s j) (and-left same less r)) (ltb-true (order s i) (order s j) (and-right same less r))
 
+pub line-small : (s : List ℕ) (f : ℕ) → lineValid s f ≡ true → (i : ℕ) → i < 6 → natAbs (multiplier s f i) ≤ 13
+unfolding lineValid
+line-small s f e i h = leb-true (natAbs (multiplier s f i)) 13 (all-at (λ q. isMultiplier (multiplier s f q)) 6 e i h)
+
 pub record Valid (s : List ℕ) : Type 0 where
   pub line : (f i : ℕ) → f < lineCount s → i < 6 → natAbs (multiplier s f i) ≤ 13
   pub row : (k : ℕ) → k < tideCount s → weightTo (admittance s k) (lineCount s) ≤ 4000000
@@ -131,11 +135,11 @@ pub record Valid (s : List ℕ) : Type 0 where
   pub before : (j : ℕ) → j + 1 < placeCount s → Before s j (j + 1)
 
 pub values : (s : List ℕ) → valid s ≡ true → Valid s
-unfolding valid lineValid rowValid ascending
+unfolding valid rowValid ascending
 values s e =
     let t = four (allTo (lineValid s) (lineCount s)) (allTo (rowValid s) (tideCount s)) (allTo (placeValid s) (placeCount s)) (ascending s) e in
     record {
-      line = λ f i h g. leb-true (natAbs (multiplier s f i)) 13 (all-at (λ q. isMultiplier (multiplier s f q)) 6 (all-at (lineValid s) (lineCount s) (t .0) f h) i g);
+      line = λ f i h g. line-small s f (all-at (lineValid s) (lineCount s) (t .0) f h) i g;
       row = λ k h. leb-true (weightTo (admittance s k) (lineCount s)) 4000000 (all-at (rowValid s) (tideCount s) (t .1) k h);
       places = λ j h. place-of s j (all-at (placeValid s) (placeCount s) (t .2) j h);
       before = λ j h. before s j (j + 1) (all-at (λ i. precedes s i (i + 1)) (placeCount s - 1) (t .3) j (omega arith));

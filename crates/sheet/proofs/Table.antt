@@ -1,18 +1,19 @@
 -- Refusals 7, 8 and 9 are given exactly when 01's table says, and 16 between 8 and 9 exactly when two lines are twins.
-use mathlib.Core.Bool.{Bool, true, false, cond, not, _&&_, _||_}
-use mathlib.Core.List.{List}
+use mathlib.Core.Bool.{Bool, true, false, true≢false, false≢true, cond, not, _&&_, _||_}
+use mathlib.Core.List.{List, [], _∷_, map}
 use mathlib.Core.Logic.{_↔_}
-use mathlib.Core.Path.{_≡_, refl, sym, ap, subst, _∙_}
-use Prim.Native.Nat.{ℕ, zero, suc, _+_, _-_, _^_, _≤_, _<_}
+use mathlib.Core.Path.{_≡_, refl, sym, ap, _∙_}
+use Prim.Native.Nat.{ℕ, zero, suc, _+_, _-_, _^_, _<_}
 use native.Mathlib.Omega.{arith}
 use borrow.Author.Tests.{leb-true, leb-false, ltb-false, eqb-false, lt-ltb, le-ltb, eq-eqb, ne-eqb}
-use lib.Dec.{T, leb, ltb, eqb}
-use lib.IntN.{ℤ, pos, natAbs}
+use lib.Dec.{leb, ltb, eqb}
+use lib.IntN.{pos, natAbs}
 use lib.ListN.{length}
 use Rattle.whole.specs.Sum.{weightTo, allTo}
 use Rattle.whole.proofs.Counted.{all-at}
 use Rattle.limits.specs.Limits.{isLineCount, isTideCount, isPlaceCount, isMultiplier, isSheetDegree, isCoefficient}
 use Rattle.refusals.specs.Outcome.{firstOf}
+use Rattle.words.specs.Words.{twosComplement}
 use Rattle.sheet.specs.Sheet.{lineCount, tideCount, placeCount, sheetEnd, multiplier, multipliers, admittance, degree, order, sCos, sSin, coefficient}
 use Rattle.sheet.specs.Accepted.{shaped, lineValid, rowValid, countsValid, sZero, placeValid, precedes, ascending, valid, twins, untwinned, reached, ownRefusal, sheetRefusal}
 use Rattle.sheet.proofs.Twins.{twins-same, same-twins}
@@ -49,9 +50,6 @@ pub data DegreeFault (s : List ℕ) (n : ℕ) : Type 0 where
   above : (j : ℕ) → j < placeCount s → n < degree s j → DegreeFault s n
 
 -- ---- tests that fail
-clash : {X : Type 0} → true ≡ false → X
-clash e = absurd (subst T e tt)
-
 refuted : (b : Bool) → (b ≡ true → ⊥) → b ≡ false
 refuted true h = absurd (h refl)
 refuted false h = refl
@@ -69,16 +67,16 @@ module _ {X : Type 0} where
 
   all-fails : (f : ℕ → Bool) (n : ℕ) → allTo f n ≡ false → ((i : ℕ) → i < n → f i ≡ false → X) → X
   unfolding allTo
-  all-fails f zero e k = clash e
+  all-fails f zero e k = absurd (true≢false e)
   all-fails f (suc n) e k = and-fails (allTo f n) (f n) e (λ x. all-fails f n x (λ i l y. k i (omega arith) y)) (λ x. k n (omega arith) x)
 
 or-fails : (a b : Bool) → (a || b) ≡ false → (a ≡ false) × (b ≡ false)
-or-fails true b e = clash e
+or-fails true b e = absurd (true≢false e)
 or-fails false b e = (refl, e)
 
 not-fails : (a : Bool) → not a ≡ false → a ≡ true
 not-fails true e = refl
-not-fails false e = clash e
+not-fails false e = absurd (true≢false e)
 
 -- ---- each test fails exactly where its fault is
 shape-fault : (s : List ℕ) → shaped s ≡ false → ShapeFault s
@@ -127,7 +125,7 @@ value-fault s e =
     (λ f l y. all-fails (λ i. isMultiplier (multiplier s f i)) 6 y (λ i m z. multiplier-beyond f i l m (leb-false (natAbs (multiplier s f i)) 13 z))))
     (λ x. all-fails (rowValid s) (tideCount s) x (λ k l y. total-beyond k l (leb-false (weightTo (admittance s k) (lineCount s)) 4000000 y)))
     (λ x. all-fails (placeValid s) (placeCount s) x (place-fault s))
-    (λ x. all-fails (λ j. precedes s j (j + 1)) (placeCount s - 1) x (λ j l y. not-ascending j (omega arith) (λ b. clash (sym (before-test b) ∙ y))))
+    (λ x. all-fails (λ j. precedes s j (j + 1)) (placeCount s - 1) x (λ j l y. not-ascending j (omega arith) (λ b. true≢false (sym (before-test b) ∙ y))))
 
 no-values : {s : List ℕ} → ValueFault s → Valid s → ⊥
 no-values (multiplier-beyond f i l m h) v = omega (arith, v .line f i l m)
@@ -151,7 +149,7 @@ no-twins : {s : List ℕ} → TwinFault s → untwinned s ≡ true → ⊥
 unfolding untwinned
 no-twins {s} (twin-lines e f l m other same) x =
     let either = all-at (λ i. eqb e i || not (twins s e i)) (lineCount s) (all-at (λ i. allTo (λ j. eqb i j || not (twins s i j)) (lineCount s)) (lineCount s) x e l) f m in
-    clash (sym (rw (ne-eqb e f other, same-twins s e f same) at either))
+    false≢true (rw (ne-eqb e f other, same-twins s e f same) at either)
 
 degree-fault : (s : List ℕ) (n : ℕ) → reached s n ≡ false → DegreeFault s n
 unfolding reached
@@ -163,7 +161,7 @@ no-degrees {s} {n} (above j l h) e = omega (arith, leb-true (degree s j) n (all-
 
 -- ---- of four tests in their order, each with its fault
 free : {F : Type 0} → true ≡ false ↔ F → F → ⊥
-free p f = clash (p .1 f)
+free p f = true≢false (p .1 f)
 
 abbrev first : Bool → Bool → Bool → Bool → ℕ
 first a b c d = firstOf (cond a (cond b (cond c 0 16) 8) 7) (cond d 0 9)
@@ -226,3 +224,14 @@ sheet-table s n =
     (value-fault s, λ f. refuted (valid s) (λ e. no-values f (values s e)))
     (twin-fault s, λ f. refuted (untwinned s) (no-twins f))
     (degree-fault s n, λ f. refuted (reached s n) (no-degrees f))
+
+-- ---- computed: two lines that share P9's admittance, the second with another first multiplier or the same, and one place of order 2
+abbrev halved : ℕ → ℕ → List ℕ
+halved tau n =
+    2 ∷ 0 ∷ 2 ∷ 0 ∷ 0 ∷ 0 ∷ 0 ∷ 0 ∷ tau ∷ 0 ∷ 0 ∷ 0 ∷ 0 ∷ 0 ∷ 1 ∷ 0 ∷ 32 ∷ 161 ∷ 7 ∷ 0 ∷ 32 ∷ 161 ∷ 7 ∷ 0
+    ∷ 1 ∷ 0 ∷ n ∷ 2 ∷ 232 ∷ 3 ∷ 0 ∷ 0 ∷ 0 ∷ 0 ∷ 0 ∷ 0 ∷ 0 ∷ 0 ∷ 0 ∷ 0 ∷ 12 ∷ 254 ∷ 255 ∷ 255 ∷ []
+
+-- twins are refused, and before a degree above the field's
+pub twins-refused : map (λ s. sheetRefusal s 4) (halved 1 2 ∷ halved 2 2 ∷ halved 1 5 ∷ halved 2 5 ∷ []) ≡ 0 ∷ 16 ∷ 9 ∷ 16 ∷ []
+unfolding sheetRefusal firstOf ownRefusal shaped valid twins untwinned reached lineValid rowValid placeValid countsValid sZero ascending precedes twosComplement lineCount tideCount placeCount multiplier admittance degree order coefficient weightTo allTo
+twins-refused = refl

@@ -1,19 +1,14 @@
 -- What digits of base 27 write tells them.
-use borrow.Author.Tests.{leb-true}
-use mathlib.Core.Bool.{true}
 use mathlib.Core.List.{List}
-use mathlib.Core.Path.{_≡_, refl, ap, sym, subst, _∙_}
+use mathlib.Core.Path.{_≡_, refl, sym, subst, _∙_}
 use mathlib.Core.Logic.{⊎-elim}
-use Prim.Native.Nat.{ℕ, zero, suc, _+_, _*_, _^_, _≤_, _<_}
+use Prim.Native.Nat.{ℕ, zero, suc, _+_, _^_, _≤_, _<_}
 use native.Mathlib.Nat.{eq-or-lt-of-le, le-of-suc-le-suc, pow-zero, pow-suc}
 use native.Mathlib.Omega.{arith}
 use lib.IntN.{ℤ, pos, negsuc, natAbs, _+ℤ_}
-use lib.ListN.{length, getD, set, length-set, replicate, length-replicate, getD-replicate}
-use lib.Seq.{getD-set-same, getD-set-other}
-use Rattle.limits.specs.Limits.{isMultiplier}
-use Rattle.sheet.specs.Accepted.{lineValid}
-use Rattle.sheet.specs.Sheet.{multiplier}
-use Rattle.whole.proofs.Counted.{all-at}
+use lib.ListN.{set, length-set, replicate, length-replicate, getD-replicate}
+use lib.Seq.{getD-set-other}
+use Rattle.whole.proofs.Listed.{stored}
 use Rattle.whole.proofs.Parts.{up, dn, same, sum, abs, abs-sum}
 use Rattle.sheet_twins.specs.Inner.{digit, written, key, noKey, Keyed}
 
@@ -66,11 +61,6 @@ unfolding written
 written-same j k zero h = refl
 written-same j k (suc n) h = rw (written-same j k n (λ i l. h i (omega arith)), h n (omega arith)) refl
 
--- ---- a line's
-pub line-small : (sheet : List ℕ) (f : ℕ) → lineValid sheet f ≡ true → (i : ℕ) → i < 6 → natAbs (multiplier sheet f i) ≤ 13
-unfolding lineValid
-line-small sheet f v i h = leb-true (natAbs (multiplier sheet f i)) 13 (all-at (λ q. isMultiplier (multiplier sheet f q)) 6 v i h)
-
 -- ---- a list of them, filled from the front
 pub keyed-none : (sheet : List ℕ) → Keyed sheet 0 (replicate 136 noKey)
 keyed-none sheet = record {
@@ -82,9 +72,6 @@ keyed-none sheet = record {
 pub keyed-more : (sheet : List ℕ) (n : ℕ) (keys : List ℕ) {v : ℕ} → Keyed sheet n keys → n < 136 → v ≡ key sheet n → Keyed sheet (n + 1) (set keys n v)
 keyed-more sheet n keys {v} K h e = record {
   length = length-set keys n v ∙ K .length;
-  line = λ f k.
-      let m : f ≤ n = omega arith in
-      ⊎-elim (λ q. ap (λ (j : ℕ). getD (set keys n v) j 0) q ∙ getD-set-same keys n v 0 (omega (arith, K .length)) ∙ e ∙ ap (key sheet) (sym q))
-      (λ l. getD-set-other keys n f v 0 (λ q. omega arith) ∙ K .line f l) (eq-or-lt-of-le m);
+  line = stored 0 (key sheet) n keys (K .line) (omega (arith, K .length)) e;
   after = λ f k g. getD-set-other keys n f v 0 (λ q. omega arith) ∙ K .after f (omega arith) g;
 }

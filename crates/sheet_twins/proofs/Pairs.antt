@@ -1,23 +1,23 @@
 -- Each line's key compared with those after it, to whole eights, is each line compared with each other: twins stand in one order or the other, lines of one
 -- key are twins, and what stands after the last key is no line's.
-use mathlib.Core.Bool.{Bool, true, false, not, _&&_, _||_}
+use mathlib.Core.Bool.{Bool, true, false, false≢true, not, _&&_, _||_}
 use mathlib.Core.List.{List}
 use mathlib.Core.Path.{_≡_, refl, sym, subst, _∙_}
-use Prim.Native.Nat.{ℕ, _+_, _-_, _*_, _/_, _^_, _≤_, _<_}
+use Prim.Native.Nat.{ℕ, _+_, _-_, _*_, _/_, _≤_, _<_}
 use native.Mathlib.Nat.{div-mul-le-self, lt-div-mul-add}
 use native.Mathlib.Omega.{arith}
 use borrow.Author.Tests.{ltb-true, ltb-false, eqb-true, eq-eqb}
-use lib.Dec.{T, ltb, eqb}
+use lib.Dec.{ltb, eqb}
 use lib.IntN.{natAbs}
 use lib.ListN.{getD}
 use Rattle.whole.specs.Sum.{allTo}
 use Rattle.whole.proofs.Counted.{all-at, all-of}
 use Rattle.sheet.specs.Sheet.{lineCount, multiplier}
 use Rattle.sheet.specs.Accepted.{lineValid, twins, untwinned}
-use Rattle.sheet.proofs.Acceptance.{same-test}
+use Rattle.sheet.proofs.Acceptance.{same-test, line-small}
 use Rattle.sheet.proofs.Twins.{twins-each, each-twins}
 use Rattle.sheet_twins.specs.Inner.{key, Keyed, noneAfter}
-use Rattle.sheet_twins.proofs.Keys.{written-small, written-one, written-same, line-small}
+use Rattle.sheet_twins.proofs.Keys.{written-small, written-one, written-same}
 
 -- the lines after line f of n, to whole eights
 abbrev pub eights : ℕ → ℕ → ℕ
@@ -28,9 +28,6 @@ eights-most n f h g = omega (arith, div-mul-le-self (n - f + 6) 8)
 
 eights-reach : (n f e : ℕ) → f < e → e < n → e - f - 1 < eights n f
 eights-reach n f e h g = omega (arith, lt-div-mul-add {a = n - f + 6} {b = 8} (omega arith))
-
-clash : {X : Type 0} → true ≡ false → X
-clash e = absurd (subst T e tt)
 
 -- ---- tests
 -- found before, or found now
@@ -43,12 +40,12 @@ refuted true h = absurd (h refl)
 refuted false h = refl
 
 against : (b : Bool) → not b ≡ true → b ≡ true → ⊥
-against true e h = clash (sym e)
-against false e h = clash (sym h)
+against true e h = false≢true e
+against false e h = false≢true h
 
 unless : (a b : Bool) → (b ≡ true → a ≡ true) → (a || not b) ≡ true
 unless true b h = refl
-unless false true h = absurd (clash (sym (h refl)))
+unless false true h = absurd (false≢true (h refl))
 unless false false h = refl
 
 unless-not : (a b : Bool) → (a || not b) ≡ true → b ≡ true → a ≡ true

@@ -1,24 +1,20 @@
 -- Each turn writes one more digit; five of them and one more stay below 27^6.
-use mathlib.Core.Bool.{true}
-use mathlib.Core.Path.{_≡_, refl, ap, sym, _∙_}
+use mathlib.Core.Path.{_≡_, refl, ap, _∙_}
 use Prim.Native.Nat.{ℕ, _+_, _-_, _*_, _^_, _≤_, _<_}
 use native.Mathlib.Nat.{pow-le-pow-right}
 use native.Mathlib.Numerals.{add-one}
 use native.Mathlib.Omega.{arith}
 use borrow.Author.Needs.{needs}
-use borrow.Author.Tests.{leb-true}
 use lib.IntN.{ℤ, natAbs}
 use lib.ListN.{length}
 use mir.Syntax.{w32}
 use mir.Val.{toZ, ofZ}
-use Rattle.limits.specs.Limits.{isMultiplier}
-use Rattle.whole.proofs.Counted.{all-at}
-use Rattle.sheet.specs.Sheet.{lineCount, multiplier}
-use Rattle.sheet.specs.Accepted.{lineValid}
+use Rattle.sheet.specs.Sheet.{multiplier}
+use Rattle.sheet.proofs.Acceptance.{line-small}
 use Rattle.sheet.proofs.Offsets.{line-in}
 use Rattle.sheet.proofs.Signs.{told}
 use Rattle.sheet_twins.specs.Inner.{digit, written, key}
-use Rattle.sheet_twins.proofs.Keys.{digit-small, written-small, line-small}
+use Rattle.sheet_twins.proofs.Keys.{digit-small, written-small}
 use Rattle.sheet_twins.proofs.key_at.Statement.{statement}
 use Rattle.sheet_twins.proofs.key_at.Tie as tie
 
