@@ -12,11 +12,14 @@ static const char *names[CALLS] = {"solid_tide", "own_lines", "pole_tide", "ocea
     "set_hour", "move_hour"};
 static long answered[CALLS][101], differences;
 
-/* what an answer alone does not tell of a solid tide */
-enum { MOON_KIND, SUN_KIND, FIELD_AND_14, MOON_AND_14, SUN_AND_14, SIX_AND_14, MOON_ABOVE_SUN, SUN_3, SUN_4, SUN_5, LEFT_BEYOND, BETWEEN_BEYOND, EVENTS };
+/* what an answer alone does not tell of a solid tide, and of an ocean tide */
+enum { MOON_KIND, SUN_KIND, FIELD_AND_14, MOON_AND_14, SUN_AND_14, SIX_AND_14, MOON_ABOVE_SUN, SUN_3, SUN_4, SUN_5, LEFT_BEYOND, BETWEEN_BEYOND,
+    OF_OCEAN, FIELD_AND_16 = OF_OCEAN, EIGHT_AND_16, NINE_AND_16, TWIN_ENDS, TWIN_NEIGHBOURS, TWINS_ELSEWHERE, TWINS_OF_128, OFF_BY_1, OFF_BY_26, EVENTS };
 static const char *events[EVENTS] = {"the Moon's kind before 1 or 2", "the Sun's kind before 1 or 2", "1 or 2 before 14", "14 before the Moon's",
     "14 before the Sun's", "14 before 6", "the Moon's before a lower one of the Sun's", "the Sun's 3", "the Sun's 4", "the Sun's 5", "an entry left beyond the range",
-    "an entry beyond the range after step one, and not after both"};
+    "an entry beyond the range after step one, and not after both",
+    "1 or 2 before 16", "8 before 16", "16 before 9", "twins that stand first and last", "twins that are neighbours", "twins elsewhere",
+    "twins among 128 lines", "two lines one apart in one multiplier, accepted", "two lines 26 apart in one multiplier, accepted"};
 static long met[EVENTS];
 static const char *rounded[ROUNDINGS] = {"step one", "step two", "own lines", "the pole tide", "a tide's factors", "the ocean tide"};
 
@@ -305,12 +308,38 @@ static void to_a_tie(lent_records *l, surfgimlet_phases *f)
 static uint8_t *put16(uint8_t *at, uint64_t x) { at[0] = (uint8_t)x; at[1] = (uint8_t)(x >> 8); return at + 2; }
 static uint8_t *put32(uint8_t *at, int64_t x) { put16(at, (uint64_t)x & 0xffff); put16(at + 2, (uint64_t)x >> 16 & 0xffff); return at + 4; }
 
-/* a sheet that is right, then one in three damaged: a byte, a count, a word, a place, its length */
+/* one multiplier of two lines, made so far apart */
+static void set_apart(uint8_t *one, uint8_t *other, uint64_t by)
+{
+    *one = (uint8_t)(below(27 - by) - 13);
+    *other = (uint8_t)(*one + by);
+}
+
+/* Two lines of a sheet made twins: the first and the last, two neighbours or any two. Or nearly twins: one multiplier 1 or 26 apart; or one by 1 and one
+ * beside it back by up to 26, as where two lines make the same number by a radix that is too small. */
+static void make_alike(uint8_t *lines, uint64_t count, int nearly)
+{
+    uint64_t i = below(count - 1), j = one_in(3) ? i + 1 : i + 1 + below(count - 1 - i), k = below(6);
+    uint8_t *one = lines + 6 * i, *other = lines + 6 * j;
+    if (one_in(4)) { one = lines; other = lines + 6 * (count - 1); }
+    memcpy(other, one, 6);
+    if (nearly && one_in(3)) {
+        uint64_t next = k == 0 ? 1 : k == 5 ? 4 : one_in(2) ? k - 1 : k + 1;
+        set_apart(one + k, other + k, 1);
+        set_apart(other + next, one + next, 1 + below(26));
+    } else if (nearly) {
+        set_apart(one + k, other + k, one_in(2) ? 26 : 1);
+    }
+}
+
+/* a sheet that is right, then one in three damaged: a byte, a count, a word, a place, its length; one in ten has twin lines and one in ten nearly twins,
+ * among more lines, since a test that takes several at a time has an end to get right */
 static size_t sheet(uint8_t *out)
 {
     uint8_t *at = out;
-    uint64_t lines = 1 + below(6), tides = 1 + below(3), places = below(7), top = one_in(3) ? 12 : 4, n = 1, m = 0;
+    uint64_t lines = 1 + below(6), tides = 1 + below(3), places = below(7), top = one_in(3) ? 12 : 4, n = 1, m = 0, alike = below(10);
     size_t length;
+    if (alike < 2) lines = one_in(12) ? 128 : 2 + below(one_in(6) ? 127 : 23);
     if (one_in(500)) { lines = 1 + below(128); tides = 1 + below(32); }
     if (one_in(100)) { lines = 128; tides = 1; }
     if (one_in(100)) { places = 90; top = 12; tides = 1; }
@@ -324,6 +353,7 @@ static size_t sheet(uint8_t *out)
     }
     at = put16(at, lines);
     for (uint64_t i = 0; i < 6 * lines; i++) *at++ = (uint8_t)within(one_in(4) ? 13 : 3);
+    if (alike < 2 && lines > 1) make_alike(out + 2, lines, alike == 1);
     at = put16(at, tides);
     for (uint64_t k = 0; k < tides; k++) {
         int64_t left = 4000000;
@@ -511,6 +541,32 @@ static void meet(uint32_t n, lent *c, lent *s, lent *c2, lent *s2, surfgimlet_bo
     met[BETWEEN_BEYOND] += between;
 }
 
+/* counts the events of an ocean tide */
+static void meet_lines(uint32_t n, const uint8_t *bytes, size_t length, uint32_t told)
+{
+    model_sheet t;
+    if (told == 100 || model_layout(bytes, length, &t)) return;
+    met[FIELD_AND_16] += (told == 1 || told == 2) && model_values(&t) && model_twins(&t);
+    met[EIGHT_AND_16] += told == 8 && model_twins(&t);
+    met[NINE_AND_16] += told == 16 && model_beyond(&t, n);
+    for (size_t j = 1; (told == 16 || told == 0) && j < t.lines; j++)
+        for (size_t i = 0; i < j; i++) {
+            int differ = 0, apart = 0, ends = i == 0 && j + 1 == t.lines;
+            for (int k = 0; k < 6; k++) {
+                int by = abs((int8_t)t.line[6 * i + k] - (int8_t)t.line[6 * j + k]);
+                differ += by != 0;
+                apart += by;
+            }
+            if (differ > 1) continue;
+            met[TWIN_ENDS] += apart == 0 && ends;
+            met[TWIN_NEIGHBOURS] += apart == 0 && j == i + 1;
+            met[TWINS_ELSEWHERE] += apart == 0 && j > i + 1 && !ends;
+            met[TWINS_OF_128] += apart == 0 && t.lines == 128;
+            met[OFF_BY_1] += told == 0 && apart == 1;
+            met[OFF_BY_26] += told == 0 && apart == 26;
+        }
+}
+
 static void over_field(int call)
 {
     static lent c, s, c2, s2;
@@ -526,6 +582,7 @@ static void over_field(int call)
         memcpy(kept, bytes, length);
         answer = surfgimlet_ocean_tide(n, or_null(&c), c.length, or_null(&s), s.length, b, length, f, frame);
         told = model_ocean_tide(n, entries(&c2), c2.length, entries(&s2), s2.length, kept, length, f, frame);
+        meet_lines(n, kept, length, told);
         if (length && memcmp(b, kept, length)) { differences++; puts("ocean_tide: the sheet is changed"); }
     } else if (call == OWN_LINES) {
         static lent_records lines;
@@ -625,7 +682,7 @@ static void alone(int call)
 int main(int argc, char **argv)
 {
     static const int numbers[CALLS][12] = {{0, 1, 2, 3, 4, 5, 6, 14, 100, -1}, {0, 1, 2, 12, 13, -1}, {0, 1, 2, 15, 100, -1},
-        {0, 1, 2, 7, 8, 9, 100, -1}, {0, 2, 100, -1}, {0, 10, -1}, {0, 10, -1}, {0, 10, 11, -1}, {0, -1}, {0, -1}, {0, 100, -1}};
+        {0, 1, 2, 7, 8, 16, 9, 100, -1}, {0, 2, 100, -1}, {0, 10, -1}, {0, 10, -1}, {0, 10, 11, -1}, {0, -1}, {0, -1}, {0, 100, -1}};
     long count = argc > 1 ? atol(argv[1]) : 1000000, missing = 0;
     if (surfgimlet_all_lines() != (UINT64_C(1) << 49) - 1 || surfgimlet_major_lines() != model_major_lines()) {
         differences++;
@@ -633,12 +690,12 @@ int main(int argc, char **argv)
     }
     waves(200000);
     for (long i = 0; i < count; i++) {
-        uint64_t pick = below(28);
-        if (pick < 8) over_field(OCEAN_TIDE);
-        else if (pick < 15) over_field(SOLID_TIDE);
-        else if (pick < 19) over_field(OWN_LINES);
-        else if (pick < 21) over_field(POLE_TIDE);
-        else if (pick < 23) move_hour(one_in(2) ? by_hand() : reached());
+        uint64_t pick = below(29);
+        if (pick < 9) over_field(OCEAN_TIDE);
+        else if (pick < 16) over_field(SOLID_TIDE);
+        else if (pick < 20) over_field(OWN_LINES);
+        else if (pick < 22) over_field(POLE_TIDE);
+        else if (pick < 24) move_hour(one_in(2) ? by_hand() : reached());
         else alone(MOVE_C20 + (int)below(4));
     }
     for (int call = 0; call < CALLS; call++) {
@@ -650,7 +707,7 @@ int main(int argc, char **argv)
         puts("");
     }
     for (int i = 0; i < EVENTS; i++) {
-        printf("fuzz: solid_tide, %s: %ld times\n", events[i], met[i]);
+        printf("fuzz: %s, %s: %ld times\n", names[i < OF_OCEAN ? SOLID_TIDE : OCEAN_TIDE], events[i], met[i]);
         missing += met[i] == 0;
     }
     for (int i = 0; i < ROUNDINGS; i++) {

@@ -445,6 +445,23 @@ static int model_values(const model_sheet *t)
     return good;
 }
 
+/* whether two lines, wherever they stand, have the same six multipliers */
+static int model_twins(const model_sheet *t)
+{
+    for (size_t i = 0; i < t->lines; i++)
+        for (size_t j = i + 1; j < t->lines; j++)
+            if (memcmp(t->line + 6 * i, t->line + 6 * j, 6) == 0) return 1;
+    return 0;
+}
+
+/* whether a place has a degree above n */
+static int model_beyond(const model_sheet *t, uint32_t n)
+{
+    for (size_t j = 0; j < t->places; j++)
+        if (t->place[j * (2 + 16 * t->tides)] > n) return 1;
+    return 0;
+}
+
 static uint32_t model_ocean_tide(uint32_t n, int64_t *c, size_t c_length, int64_t *s, size_t s_length,
                                  const uint8_t *sheet, size_t sheet_length, surfgimlet_phases b, uint32_t frame)
 {
@@ -455,8 +472,8 @@ static uint32_t model_ocean_tide(uint32_t n, int64_t *c, size_t c_length, int64_
     if ((refusal = model_field(n, c, c_length, s, s_length))) return refusal;
     if ((refusal = model_layout(sheet, sheet_length, &t))) return refusal;
     if (!model_values(&t)) return 8;
-    for (size_t j = 0; j < t.places; j++)
-        if (t.place[j * (2 + 16 * t.tides)] > n) return 9;
+    if (model_twins(&t)) return 16;
+    if (model_beyond(&t, n)) return 9;
     for (size_t f = 0; f < t.lines; f++) {
         int32_t m[6];
         uint32_t phase;
