@@ -5,14 +5,14 @@
 #include "lent.h"
 #include "surfgimlet.h"
 
-#define LEAST 28000 /* cases, so that an input cut short is noticed */
+#define LEAST 32000 /* cases, so that an input cut short is noticed */
 
 /* an hour is a call of its own: start, set and move, in any order */
 enum { SOLID_TIDE, OWN_LINES, POLE_TIDE, OCEAN_TIDE, MOVE_C20, MULTIPLIERS_OF, NUMBER_OF, FIND_LINE, HOUR, ALL_LINES, MAJOR_LINES, CALLS };
 static const char *names[CALLS] = {"solid_tide", "own_lines", "pole_tide", "ocean_tide", "move_c20", "multipliers_of", "number_of", "find_line", "hour",
     "all_lines", "major_lines"};
 static const int numbers[CALLS][10] = {{0, 1, 2, 3, 4, 5, 6, 14, 100, -1}, {0, 1, 2, 12, 13, -1},
-    {0, 1, 2, 15, 100, -1}, {0, 1, 2, 7, 8, 9, 100, -1}, {0, 2, 100, -1}, {0, 10, -1}, {0, 10, -1}, {0, 10, 11, -1}, {0, 100, -1}, {0, -1}, {0, -1}};
+    {0, 1, 2, 15, 100, -1}, {0, 1, 2, 7, 8, 16, 9, 100, -1}, {0, 2, 100, -1}, {0, 10, -1}, {0, 10, -1}, {0, 10, 11, -1}, {0, 100, -1}, {0, -1}, {0, -1}};
 static long answered[CALLS][101], cases, differences;
 
 static uint32_t n;

@@ -278,9 +278,14 @@ def bodies():
             yield lent, [(name, love, (bad, *moon[1:]), sun, *rest), (name, love, moon, (bad, *sun[1:]), *rest)]
 
 
+def sets_of_faults(order):
+    """Every set of places in a call's order of refusals, those of two more often."""
+    return (some for count in (2, 2, 2, 2, *range(1, len(order) + 1)) for some in combinations(range(len(order)), count))
+
+
 def orders():
-    """Every set of faults of the solid tide, those of two more often: the number that is first in its order."""
-    for faults in (some for count in (2, 2, 2, 2, *range(1, 11)) for some in combinations(range(10), count)):
+    """Every set of faults of the solid tide: the number that is first in its order."""
+    for faults in sets_of_faults(g.SOLID_ORDER):
         field, moon, sun, selection = g.solid_with(chance, faults)
         yield field, [at_phases(moon, sun, g.phases(chance), selection, some_love())]
 
@@ -748,6 +753,43 @@ def waves():
         yield ZEROS, [call]
 
 
+# --- Twin lines in a sheet ---
+
+def twin_lines():
+    """Sheets that tell slips, in both frames; 100, 1 and 2 before 16, and every set of faults of the ocean tide: the number that is first in its order."""
+    for _, N, data in telling.twin_calls():
+        yield g.varied_field(chance, N), either(ocean_tide, data, g.phases(chance))
+    for lines in (g.FAR_LINES[:2], g.FAR_LINES):
+        call = some_ocean(telling.lined(g.twinned(lines, 0, len(lines) - 1)))
+        yield from choices(call)
+        yield from some_fields(call)
+    for faults in sets_of_faults(g.OCEAN_ORDER):
+        field, data = g.ocean_with(chance, faults)
+        yield field, [some_ocean(data)]
+
+
+def where_twins_stand():
+    """Twins at any two of few lines, and of many lines at neighbours and at either end and any other; nearly twins and none between them: at whole eights of
+    lines and one more or less. Then in sheets of every size, other calls between them."""
+    for count in (2, 3, 7, 8, 9, 15, 16, 17, 64, 127, 128):
+        last = count - 1
+        pairs = [(i, j) for i, j in combinations(range(count), 2) if count < 20 or i == 0 or j in (i + 1, last)]
+        for lines in (g.FAR_LINES[:count], g.different_lines(chance, count)):
+            calls = [some_ocean(telling.lined(g.twinned(lines, *pair))) for pair in pairs]
+            for at, (i, j) in product(range(6), ((0, last), (last - 1, last))):
+                off = g.spoilt(lines[i], at, lines[i][at] + (1 if lines[i][at] < 0 else -1))
+                calls.insert(chance.below(len(calls) + 1), some_ocean(telling.lined(g.spoilt(lines, j, off))))
+            yield from in_row([some_ocean(telling.lined(lines)), *calls, some_ocean(telling.lined(lines[::-1]))], 40, g.varied_field(chance, 4))
+    for _ in range(60):
+        lines, *rest = g.sheet(chance, chance.between(2, 12), chance.between(1, 4), chance.between(0, 8), 4)
+        twins = g.twinned(lines, *chance.some(2, range(len(lines))))
+        calls = [some_ocean(g.write_sheet(some, *rest)) for some in (lines, twins, lines)]
+        yield g.varied_field(chance, chance.between(4, 14)), [calls[0], some_lines(g.selection(chance)), calls[1], some_own(g.records(chance, 3)), calls[2]]
+    for sizes, pair in (((128, 32, 90), (0, 127)), ((128, 32, 90), (126, 127)), ((128, 1, 90), (63, 64)), ((2, 32, 90), (0, 1)), ((2, 32, 0), (0, 1))):
+        lines, *rest = g.sheet(chance, *sizes)
+        yield g.any_field(chance, chance.one(11, 12, 60)), [some_ocean(g.write_sheet(some, *rest)) for some in (g.twinned(lines, *pair), lines)]
+
+
 # --- Cases of the description, and a day ---
 
 def printed():
@@ -775,7 +817,7 @@ def cases():
     pole = pole_tide(*telling.POLE_OFFSETS[1], 1)
     yield from fields(pole)
     yield from choices(pole)
-    for part in (offsets_refused, offsets_alone, pole_offsets, hours, hours_used):
+    for part in (offsets_refused, offsets_alone, pole_offsets, hours, hours_used, twin_lines, where_twins_stand):
         yield from part()
 
 
