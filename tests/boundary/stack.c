@@ -26,7 +26,8 @@ static size_t sheet_length;
 static void fill(void)
 {
     uint8_t *at = sheet;
-    *at++ = 128; *at++ = 0; at += 6 * 128;
+    *at++ = 128; *at++ = 0;
+    for (int i = 0; i < 128; i++, at += 6) { at[0] = (uint8_t)(i % 12); at[5] = (uint8_t)(i / 12); } /* no two alike */
     *at++ = 32; *at++ = 0; at += 4 * 128 * 32;
     *at++ = 90; *at++ = 0;
     for (int n = 1; n <= 12; n++)
