@@ -16,6 +16,7 @@ SUN = unit.rectangular(332946, 1e11, 1.1e11, 3e10)
 BODIES = ([0, 0, 0, -506485, 3768761, 2287483, -12903, -11534, 6746, -5034, 13877, -10092, -4304, 0, 0],
           [0, 0, 0, 0, -1171829, -3316535, 0, 7669, -16181, -25599, 0, 3191, 6299, 0, 0])
 ELASTIC_C22 = 2250388
+TWINS = bytes((2, 0, *(2, 1, 0, 0, 0, 7) * 2, 1, 0, *[0] * 8, 0, 0))       # two lines, one tide, no place
 faults = []
 
 
@@ -95,6 +96,8 @@ def main():
         expect('65 own lines', raised(unit.own_lines, 4, c, s, [LINE] * 65, ZERO), 12)
         expect('64 of them, the last at fault', raised(unit.own_lines, 4, c, s, [LINE] * 63 + [LINE._replace(tau=3)], ZERO), 13)
         expect('a sheet of nothing', raised(unit.ocean_tide, 4, c, s, b'', ZERO, unit.CENTRE_OF_MASS), 7)
+        expect('twin lines', raised(unit.ocean_tide, 4, c, s, TWINS, ZERO, unit.CENTRE_OF_MASS), 16)
+        expect('their order changed', raised(unit.ocean_tide, 4, c, s, TWINS[:8] + TWINS[13:7:-1] + TWINS[14:], ZERO, unit.CENTRE_OF_MASS), None)
         expect('a Moon in kilometres', solid(c, s, moon=unit.rectangular(0.0123, 3e5, -2e5, 1e5)), 4)
         expect('a Sun without a place', solid(c, s, sun=SUN._replace(x=float('nan'))), 3)
         expect('the Moon before the Sun', solid(c, s, moon=MOON._replace(x=0.0), sun=SUN._replace(r=0.0)), 5)

@@ -82,6 +82,29 @@ static void hours(surfgimlet_phases day)
     expect("its S21", s[4] == -942000 ? 0u : 1u, 0u);
 }
 
+/* the ocean tide of a sheet, on a field of zeros of degree 4 */
+static uint32_t ocean(const uint8_t *sheet, size_t length)
+{
+    const surfgimlet_phases at = {0, 0, 0, 0, 0, 0};
+    int64_t c[15] = {0}, s[15] = {0};
+    return surfgimlet_ocean_tide(4, c, 15, s, 15, sheet, length, at, SURFGIMLET_CENTRE_OF_MASS);
+}
+
+/* three lines, the first and the last alike, one tide and the place (5,0): refused after the place's order, before its degree */
+static void twins(void)
+{
+    uint8_t sheet[54] = {3, 0, 2, 1, 0, 0, 0, 7, 2, 1, 0, 0, 0, 8, 2, 1, 0, 0, 0, 7, 1, 0, 0, 0, 0, 0, 0, 0, 0, 0, 0, 0, 0, 0, 1, 0, 5};
+    expect("twin lines", ocean(sheet, sizeof sheet), SURFGIMLET_TWIN_LINES);
+    expect("their words", strcmp(surfgimlet_words(16u), "two lines of the sheet have the same six multipliers") == 0 ? 0u : 1u, 0u);
+    sheet[37] = 6;
+    expect("an order above the degree", ocean(sheet, sizeof sheet), SURFGIMLET_SHEET_VALUE);
+    sheet[37] = 0;
+    sheet[7] = 6;
+    expect("no two alike", ocean(sheet, sizeof sheet), SURFGIMLET_SHEET_DEGREE);
+    sheet[36] = 4;
+    expect("a place of the field", ocean(sheet, sizeof sheet), SURFGIMLET_ACCEPTED);
+}
+
 int main(void)
 {
     const int64_t end = (int64_t)1 << 60;
@@ -95,6 +118,7 @@ int main(void)
 
     expect("the version", surfgimlet_version(), SURFGIMLET_VERSION);
     hours(day);
+    twins();
 
     /* with length 0 a null pointer is welcome */
     expect("no lists", surfgimlet_solid_tide(4, NULL, 0, NULL, 0, moon, sun, SURFGIMLET_ANELASTIC, surfgimlet_start_hour(), 0, &named), SURFGIMLET_FIELD_SHAPE);
