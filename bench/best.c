@@ -436,6 +436,24 @@ INLINE int valid(const layout *t)
     return !bad;
 }
 
+/* a line's six bytes: eight are there, since the tides' count stands behind the last line, and the two beyond are shifted out */
+INLINE uint64_t six(const uint8_t *line) { uint64_t w; memcpy(&w, line, 8); return w << 16; }
+
+/* Each line is looked for among those before it, in a table by a hash of its six bytes. That has room for eight times as many lines as there can be, so that
+ * few meet one that is not their twin; it holds a line's number and one, or 0. */
+INLINE int twins(const layout *t)
+{
+    uint8_t table[1024] = {0};
+    for (size_t f = 0; f < t->lines; f++) {
+        uint64_t key = six(t->line + 6 * f);
+        size_t at = key * UINT64_C(0x9e3779b97f4a7c15) >> 54;
+        for (; table[at]; at = at + 1 & 1023)
+            if (six(t->line + 6 * (table[at] - 1u)) == key) return 1;
+        table[at] = (uint8_t)(f + 1);
+    }
+    return 0;
+}
+
 /* Both factors of each tide, in unsigned products: with 2^22 added to an admittance and 2^30 to a wave,
  * sum (a - A)(w - W) = sum a*w - A * sum w - W * sum (a - A). */
 INLINE void factors(const layout *t, const uint32_t *sines, const uint32_t *cosines, int64_t *fcos, int64_t *fsin)
@@ -467,6 +485,7 @@ uint32_t CALL(ocean_tide)(uint32_t n, int64_t *restrict c, size_t c_length, int6
     if ((refusal = field_refusal(n, c, c_length, s, s_length))) return refusal;
     if (!shaped(sheet, length, &t)) return 7;
     if (!valid(&t)) return 8;
+    if (twins(&t)) return 16;
     if (t.places && t.place[(t.places - 1) * t.wide] > n) return 9;     /* they ascend: the last has the highest degree */
     for (size_t f = 0; f < t.lines; f++) {
         const int8_t *m = (const int8_t *)t.line + 6 * f;

@@ -173,12 +173,26 @@ static int valid(const layout *t)
     return good;
 }
 
+/* whether two lines are alike: each as a number of six digits of 27, beside those before it */
+static int twins(const layout *t)
+{
+    int32_t keys[128];
+    int found = 0;
+    for (size_t f = 0; f < t->lines; f++) {
+        keys[f] = 0;
+        for (int i = 0; i < 6; i++) keys[f] = 27 * keys[f] + (int8_t)t->line[6 * f + i];
+        for (size_t j = 0; j < f; j++) found |= keys[j] == keys[f];
+    }
+    return found;
+}
+
 uint32_t doubles_ocean_tide(uint32_t n, double *c, double *s, const uint8_t *sheet, size_t length, const double phases[6], uint32_t frame)
 {
     layout t;
     double sine[128], cosine[128], fcos[32], fsin[32];
     if (!shaped(sheet, length, &t)) return 7;
     if (!valid(&t)) return 8;
+    if (twins(&t)) return 16;
     if (t.places && t.place[(t.places - 1) * (2 + 16 * t.tides)] > n) return 9;
     for (size_t f = 0; f < t.lines; f++) {
         double m[6], x;
