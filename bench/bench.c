@@ -12,8 +12,8 @@
 #define ROUNDS 300
 #define CALLS 120000
 
-/* ANEW is the solid tide, its hour set in front of it */
-enum { SOLID, OWN, POLE, OCEAN, SET, MOVE, KINDS, ANEW = KINDS };
+/* ANEW is the solid tide, its hour set in front of it; TWINS the ocean tide of a sheet with twin lines */
+enum { SOLID, OWN, POLE, OCEAN, SET, MOVE, KINDS, ANEW = KINDS, TWINS };
 
 /* what a call is given */
 static uint32_t n, choice;
@@ -39,24 +39,25 @@ static uint32_t answer, named;
 
 /* ---- the ways */
 
-/* where set is 0 the solid tide is that of phases, and where this is 0 too the two steps */
+/* where set is 0 the solid tide is that of phases, and where this is 0 too the two steps; version is an earlier archive's */
 typedef struct {
     const char *name;
     start_call *start; set_call *set; move_call *move; solid_call *solid; own_call *own; pole_call *pole; ocean_call *ocean;
     phases_call *of_phases; step_one_call *one; step_two_call *two;
+    version_call *version;
 } way;
 
 static const way ways[] = {
     {"unit", surfgimlet_start_hour, surfgimlet_set_hour, surfgimlet_move_hour, surfgimlet_solid_tide, surfgimlet_own_lines, surfgimlet_pole_tide,
-     surfgimlet_ocean_tide, 0, 0, 0},
-    {"gcc", gcc_start_hour, gcc_set_hour, gcc_move_hour, gcc_solid_tide, gcc_own_lines, gcc_pole_tide, gcc_ocean_tide, 0, 0, 0},
+     surfgimlet_ocean_tide, 0, 0, 0, 0},
+    {"gcc", gcc_start_hour, gcc_set_hour, gcc_move_hour, gcc_solid_tide, gcc_own_lines, gcc_pole_tide, gcc_ocean_tide, 0, 0, 0, 0},
 #ifdef WITH_CLANG
-    {"clang", clang_start_hour, clang_set_hour, clang_move_hour, clang_solid_tide, clang_own_lines, clang_pole_tide, clang_ocean_tide, 0, 0, 0},
+    {"clang", clang_start_hour, clang_set_hour, clang_move_hour, clang_solid_tide, clang_own_lines, clang_pole_tide, clang_ocean_tide, 0, 0, 0, 0},
 #endif
 #ifdef WITH_EARLIER
     {"earlier", earlier_surfgimlet_start_hour, earlier_surfgimlet_set_hour, earlier_surfgimlet_move_hour, earlier_surfgimlet_solid_tide,
      earlier_surfgimlet_own_lines, earlier_surfgimlet_pole_tide, earlier_surfgimlet_ocean_tide, earlier_solid_tide_of_phases, earlier_surfgimlet_step_one,
-     earlier_surfgimlet_step_two},
+     earlier_surfgimlet_step_two, earlier_surfgimlet_version},
 #endif
 };
 #define WAYS ((int)(sizeof ways / sizeof *ways))
@@ -67,8 +68,15 @@ static const way ways[] = {
 #define EARLIER WAYS
 #endif
 
-/* an earlier archive may be without the pole tide, make the solid tide of phases or in two steps, and so keep no hour */
-static int has(int by, int what) { return by == DOUBLES || (what == POLE ? ways[by].pole != 0 : what == SET || what == MOVE ? ways[by].set != 0 : 1); }
+/* an earlier archive may be without the pole tide, make the solid tide of phases or in two steps, and so keep no hour, and accept twin lines */
+static int has(int by, int what)
+{
+    if (by == DOUBLES) return 1;
+    if (what == POLE) return ways[by].pole != 0;
+    if (what == SET || what == MOVE) return ways[by].set != 0;
+    return what != TWINS || !ways[by].version || ways[by].version() >= 4001000;
+}
+
 static int of_phases(int by, int what) { return (what == SOLID || what == ANEW) && by != DOUBLES && !ways[by].set; }
 static int in_two_steps(int by, int what) { return of_phases(by, what) && !ways[by].of_phases; }
 
@@ -83,7 +91,7 @@ static void call(int what, int by)
         else if (what == MOVE) doubles_move_hour(&hour_d, argument, radians_more);
         else if (what == OWN) answer = doubles_own_lines(cd, sd, lines, lines_length, radians);
         else if (what == POLE) doubles_pole_tide(cd, sd, arcseconds[0], arcseconds[1], choice);
-        else if (what == OCEAN) answer = doubles_ocean_tide(n, cd, sd, sheet, length, radians, choice);
+        else if (what == OCEAN || what == TWINS) answer = doubles_ocean_tide(n, cd, sd, sheet, length, radians, choice);
     } else if (in_two_steps(by, what)) {
         answer = ways[by].one(n, c, size, s, size, moon, sun, choice);
         if (!answer) answer = ways[by].two(n, c, size, s, size, phases, choice, selection, &named);
@@ -199,11 +207,21 @@ static void make_offsets(void)
     yp = which == 0 ? 625 * k : which == 1 ? half + 7 * k : within(1000000);
 }
 
-/* places from (1,0) on, so that 90 reach degree 12, 30 degree 7 and 6 degree 3 */
+static uint8_t *line_at(size_t i) { return sheet + 2 + 6 * i; }
+
+static int is_among(const uint8_t *line, size_t count)
+{
+    for (size_t i = 0; i < count; i++)
+        if (!memcmp(line, line_at(i), 6)) return 1;
+    return 0;
+}
+
+/* lines that all differ; places from (1,0) on, so that 90 reach degree 12, 30 degree 7 and 6 degree 3 */
 static void make_sheet(int lines, int tides, int places)
 {
     uint8_t *at = put(sheet, lines, 2);
-    for (int i = 0; i < 6 * lines; i++) at = put(at, within(13), 1);
+    for (int i = 0; i < lines; i++, at += 6)
+        do for (int k = 0; k < 6; k++) put(at + k, within(13), 1); while (is_among(at, (size_t)i));
     at = put(at, tides, 2);
     for (int i = 0; i < lines * tides; i++) at = put(at, within(4000000 / lines), 4);
     at = put(at, places, 2);
@@ -212,6 +230,20 @@ static void make_sheet(int lines, int tides, int places)
         for (int q = 0; q < 4 * tides; q++) at = put(at, (q & 1) && order == 0 ? 0 : within(1 << 24), 4);
     }
     length = (size_t)(at - sheet);
+}
+
+static void make_twins(size_t i, size_t j) { memcpy(line_at(j), line_at(i), 6); }
+
+/* two lines made twins, or one in four nearly: the last two, the first and the last, or any two */
+static void make_alike(void)
+{
+    size_t count = sheet[0], i, j;
+    if (count < 2) return;
+    i = any(2) ? count - 2 : any(count - 1);
+    j = i + 1 + any(count - 1 - i);
+    if (!any(3)) { i = 0; j = count - 1; }
+    make_twins(i, j);
+    if (!any(4)) line_at(j)[any(6)]++;
 }
 
 typedef struct { surfgimlet_phases phases; double radians[6]; } epoch;
@@ -308,7 +340,7 @@ static uint32_t hold(int what)
     memcpy(c_unit, c, sizeof c);
     memcpy(s_unit, s, sizeof s);
     for (int by = 1; by < WAYS; by++) {
-        if (!has(by, what) || of_phases(by, what) && by_hand || in_two_steps(by, what) && !comparable(unit, c_unit, s_unit)) continue;
+        if (!has(by, unit == 16 ? TWINS : what) || of_phases(by, what) && by_hand || in_two_steps(by, what) && !comparable(unit, c_unit, s_unit)) continue;
         if (by == EARLIER) earlier_compared++;
         memcpy(c, c_before, sizeof c);
         memcpy(s, s_before, sizeof s);
@@ -330,12 +362,12 @@ static uint32_t hold(int what)
 }
 
 /* one thing at fault, where the call reads it: an entry, a float of a body, a byte of the sheet, its length, the Moon's mass, a record, the selection,
- * one offset or both, a body's kind */
+ * one offset or both, a body's kind, two lines of the sheet */
 static void spoil_any(void)
 {
     static const double floats[8] = {0, -1, 1e8, 1e12, 1e160, -0.0, 1e6, 2.5e11};
     int64_t edge = (int64_t)1 << 60;
-    switch (any(12)) {
+    switch (any(13)) {
     case 0: (any(2) ? c : s)[any(size_of(4))] = (any(2) ? edge : -edge) + within(1); break;
     case 1: *(&(any(2) ? &moon : &sun)->ratio + any(5)) = any(4) ? floats[any(8)] : any(2) ? NAN : INFINITY; break;
     case 2: sheet[any(length + 1)] = (uint8_t)any(256); break;
@@ -347,13 +379,14 @@ static void spoil_any(void)
     case 8: xp = any_end(1000000); yp = any_end(1000000); break;
     case 9: yp = any_end(1000000); break;
     case 10: (any(2) ? &moon : &sun)->kind = 1 + (uint32_t)any(2); break;
+    case 11: make_alike(); break;
     }
 }
 
 /* accepted calls, and calls with something at fault: N, the choice, and what spoil_any takes, twice in a quarter of the calls, so that the order shows */
 static void hold_all(void)
 {
-    static const uint32_t degrees[6] = {4, 12, 60, 7, 3, 61};
+    static const uint32_t degrees[6] = {4, 12, 60, 7, 3, 61}, numbers[] = {0, 1, 2, 3, 4, 5, 6, 7, 8, 9, 12, 13, 14, 15, 16, 100};
     long refused[101] = {0};
     hour = surfgimlet_start_hour();
     for (int by = 1; by < EARLIER; by++) {
@@ -370,7 +403,7 @@ static void hold_all(void)
         go_to(&one);
         moon = any_body(0.0123, 3e8, 4e8);
         sun = any_body(any(20) ? 332946 : 1e5, any(20) ? 1.4e11 : 1e8, 1.5e11);
-        if (what == OCEAN) make_sheet(1 + (int)any(8), 1 + (int)any(4), (int)any(16));
+        if (what == OCEAN) make_sheet(1 + (int)any(any(4) ? 20 : 128), 1 + (int)any(4), (int)any(16));
         if (what == OWN) make_lines(any(8) ? (int)any(65) : 60 + (int)any(11));
         if (what == SOLID) selection = any_selection();
         if (what == SOLID || what == MOVE) make_hour();
@@ -381,6 +414,8 @@ static void hold_all(void)
         refused[hold(what)]++;
     }
     by_hand = 0;
+    for (size_t k = 0; k < sizeof numbers / sizeof *numbers; k++)
+        if (!refused[numbers[k]]) { printf("best.c: no call was answered %u\n", numbers[k]); exit(1); }
     printf("best.c: the unit's answers, counts, hours and numbers of lines on %d calls; answered", CALLS);
     for (int i = 0; i <= 100; i++) if (refused[i]) printf(" %d: %ld", i, refused[i]);
     if (EARLIER < WAYS) {
@@ -389,6 +424,7 @@ static void hold_all(void)
         if (in_two_steps(EARLIER, SOLID)) printf(", its two steps compared where the unit accepts the solid tide and leaves every entry 2^20 within the range");
         if (!has(EARLIER, POLE)) printf(", the pole tide's left out, since it has none");
         if (!has(EARLIER, SET)) printf(", the hour's left out, since it keeps none");
+        if (!has(EARLIER, TWINS)) printf(", those refused with 16 left out, since it accepts twin lines");
     }
     puts("\n");
 }
@@ -429,56 +465,57 @@ static double best_c(const double *best, const char **by)
     return best[least];
 }
 
-typedef struct { const char *name; int what; int lines, tides, places; uint32_t n, choice; double of_c, of_doubles; int epochs; } row;
+typedef struct { const char *name; int what; int lines, tides, places; uint32_t n, choice; double of_c, of_doubles, of_earlier; int epochs; } row;
 
-/* lines are a sheet's, own ones, or those that the solid tide's selection names; of_c and of_doubles are the ratios to reach, 0 where none is set; the choice
- * of a move is its argument */
+/* lines are a sheet's, own ones, or those that the solid tide's selection names; of_c, of_doubles and of_earlier, which is of an archive that accepts twin
+ * lines, are the ratios to reach, 0 where none is set; the choice of a move is its argument */
 static const row rows[] = {
-    {"ocean 128/32/90", OCEAN, 128, 32, 90, 12, 0, 1.10, 0.90, ONE},
-    {"ocean 128/32/90", OCEAN, 128, 32, 90, 60, 0, 1.10, 0, ONE},
-    {"ocean 128/32/90, refused with 9", OCEAN, 128, 32, 90, 11, 0, 0, 0, ONE},
-    {"ocean 64/8/30", OCEAN, 64, 8, 30, 12, 0, 0, 0, ONE},
-    {"ocean 64/8/30", OCEAN, 64, 8, 30, 60, 0, 1.20, 0, ONE},
-    {"ocean 8/2/6", OCEAN, 8, 2, 6, 4, 0, 0, 0, ONE},
-    {"ocean 8/2/6", OCEAN, 8, 2, 6, 12, 0, 1.25, 0, ONE},
-    {"ocean 8/2/6", OCEAN, 8, 2, 6, 60, 0, 0, 0, ONE},
-    {"solid tide, hour kept, anelastic", SOLID, 49, 0, 0, 4, 1, 1.15, 0, ONE},
-    {"solid tide, hour kept, anelastic", SOLID, 49, 0, 0, 12, 1, 1.15, 0, ONE},
-    {"solid tide, hour kept, anelastic", SOLID, 49, 0, 0, 60, 1, 1.15, 0, ONE},
-    {"solid tide, hour kept, anelastic, major lines", SOLID, 21, 0, 0, 12, 1, 0, 0, ONE},
-    {"solid tide, hour kept, anelastic, no line", SOLID, 0, 0, 0, 12, 1, 0, 0, ONE},
-    {"solid tide, hour kept, elastic", SOLID, 49, 0, 0, 4, 0, 1.15, 0, ONE},
-    {"solid tide, hour kept, elastic", SOLID, 49, 0, 0, 12, 0, 1.15, 0, ONE},
-    {"solid tide, hour kept, elastic", SOLID, 49, 0, 0, 60, 0, 1.15, 0, ONE},
-    {"solid tide, hour set anew, anelastic", ANEW, 49, 0, 0, 4, 1, 1.35, 0, ONE},
-    {"solid tide, hour set anew, anelastic", ANEW, 49, 0, 0, 12, 1, 1.35, 0.95, ONE},
-    {"solid tide, hour set anew, anelastic", ANEW, 49, 0, 0, 60, 1, 1.20, 0, ONE},
-    {"solid tide, hour set anew, anelastic, along an arc", ANEW, 49, 0, 0, 4, 1, 0, 0, ARC},
-    {"solid tide, hour set anew, anelastic, at random", ANEW, 49, 0, 0, 4, 1, 0, 0, RANDOM},
-    {"solid tide, hour set anew, elastic", ANEW, 49, 0, 0, 4, 0, 1.35, 0, ONE},
-    {"solid tide, hour set anew, elastic", ANEW, 49, 0, 0, 12, 0, 1.35, 0, ONE},
-    {"solid tide, hour set anew, elastic", ANEW, 49, 0, 0, 60, 0, 0, 0, ONE},
-    {"set hour", SET, 0, 0, 0, 0, 0, 0, 0, ONE},
-    {"set hour, along an arc", SET, 0, 0, 0, 0, 0, 0, 0, ARC},
-    {"set hour, at random", SET, 0, 0, 0, 0, 0, 0, 0, RANDOM},
-    {"move hour, tau", MOVE, 0, 0, 0, 0, SURFGIMLET_TAU, 0, 0, ONE},
-    {"move hour, s", MOVE, 0, 0, 0, 0, SURFGIMLET_S, 0, 0, ONE},
-    {"move hour, h", MOVE, 0, 0, 0, 0, SURFGIMLET_H, 0, 0, ONE},
-    {"move hour, p", MOVE, 0, 0, 0, 0, SURFGIMLET_P, 0, 0, ONE},
-    {"move hour, N'", MOVE, 0, 0, 0, 0, SURFGIMLET_NP, 0, 0, ONE},
-    {"move hour, ps", MOVE, 0, 0, 0, 0, SURFGIMLET_PS, 0, 0, ONE},
-    {"own lines 64", OWN, 64, 0, 0, 12, 0, 0, 0, ONE},
-    {"own lines 64", OWN, 64, 0, 0, 60, 0, 0, 0, ONE},
-    {"pole tide, anelastic", POLE, 0, 0, 0, 4, 1, 0, 0, ONE},
-    {"pole tide, anelastic", POLE, 0, 0, 0, 12, 1, 0, 0, ONE},
-    {"pole tide, anelastic", POLE, 0, 0, 0, 60, 1, 0, 0, ONE},
-    {"pole tide, elastic", POLE, 0, 0, 0, 12, 0, 0, 0, ONE},
+    {"ocean 128/32/90", OCEAN, 128, 32, 90, 12, 0, 1.10, 0.90, 1.125, ONE},
+    {"ocean 128/32/90", OCEAN, 128, 32, 90, 60, 0, 1.10, 0, 1.125, ONE},
+    {"ocean 128/32/90, refused with 9", OCEAN, 128, 32, 90, 11, 0, 0, 0, 0, ONE},
+    {"ocean 128/32/90, refused with 16", TWINS, 128, 32, 90, 12, 0, 0, 0, 0, ONE},
+    {"ocean 64/8/30", OCEAN, 64, 8, 30, 12, 0, 0, 0, 0, ONE},
+    {"ocean 64/8/30", OCEAN, 64, 8, 30, 60, 0, 1.20, 0, 0, ONE},
+    {"ocean 8/2/6", OCEAN, 8, 2, 6, 4, 0, 0, 0, 0, ONE},
+    {"ocean 8/2/6", OCEAN, 8, 2, 6, 12, 0, 1.25, 0, 0, ONE},
+    {"ocean 8/2/6", OCEAN, 8, 2, 6, 60, 0, 0, 0, 0, ONE},
+    {"solid tide, hour kept, anelastic", SOLID, 49, 0, 0, 4, 1, 1.15, 0, 0, ONE},
+    {"solid tide, hour kept, anelastic", SOLID, 49, 0, 0, 12, 1, 1.15, 0, 0, ONE},
+    {"solid tide, hour kept, anelastic", SOLID, 49, 0, 0, 60, 1, 1.15, 0, 0, ONE},
+    {"solid tide, hour kept, anelastic, major lines", SOLID, 21, 0, 0, 12, 1, 0, 0, 0, ONE},
+    {"solid tide, hour kept, anelastic, no line", SOLID, 0, 0, 0, 12, 1, 0, 0, 0, ONE},
+    {"solid tide, hour kept, elastic", SOLID, 49, 0, 0, 4, 0, 1.15, 0, 0, ONE},
+    {"solid tide, hour kept, elastic", SOLID, 49, 0, 0, 12, 0, 1.15, 0, 0, ONE},
+    {"solid tide, hour kept, elastic", SOLID, 49, 0, 0, 60, 0, 1.15, 0, 0, ONE},
+    {"solid tide, hour set anew, anelastic", ANEW, 49, 0, 0, 4, 1, 1.35, 0, 0, ONE},
+    {"solid tide, hour set anew, anelastic", ANEW, 49, 0, 0, 12, 1, 1.35, 0.95, 0, ONE},
+    {"solid tide, hour set anew, anelastic", ANEW, 49, 0, 0, 60, 1, 1.20, 0, 0, ONE},
+    {"solid tide, hour set anew, anelastic, along an arc", ANEW, 49, 0, 0, 4, 1, 0, 0, 0, ARC},
+    {"solid tide, hour set anew, anelastic, at random", ANEW, 49, 0, 0, 4, 1, 0, 0, 0, RANDOM},
+    {"solid tide, hour set anew, elastic", ANEW, 49, 0, 0, 4, 0, 1.35, 0, 0, ONE},
+    {"solid tide, hour set anew, elastic", ANEW, 49, 0, 0, 12, 0, 1.35, 0, 0, ONE},
+    {"solid tide, hour set anew, elastic", ANEW, 49, 0, 0, 60, 0, 0, 0, 0, ONE},
+    {"set hour", SET, 0, 0, 0, 0, 0, 0, 0, 0, ONE},
+    {"set hour, along an arc", SET, 0, 0, 0, 0, 0, 0, 0, 0, ARC},
+    {"set hour, at random", SET, 0, 0, 0, 0, 0, 0, 0, 0, RANDOM},
+    {"move hour, tau", MOVE, 0, 0, 0, 0, SURFGIMLET_TAU, 0, 0, 0, ONE},
+    {"move hour, s", MOVE, 0, 0, 0, 0, SURFGIMLET_S, 0, 0, 0, ONE},
+    {"move hour, h", MOVE, 0, 0, 0, 0, SURFGIMLET_H, 0, 0, 0, ONE},
+    {"move hour, p", MOVE, 0, 0, 0, 0, SURFGIMLET_P, 0, 0, 0, ONE},
+    {"move hour, N'", MOVE, 0, 0, 0, 0, SURFGIMLET_NP, 0, 0, 0, ONE},
+    {"move hour, ps", MOVE, 0, 0, 0, 0, SURFGIMLET_PS, 0, 0, 0, ONE},
+    {"own lines 64", OWN, 64, 0, 0, 12, 0, 0, 0, 0, ONE},
+    {"own lines 64", OWN, 64, 0, 0, 60, 0, 0, 0, 0, ONE},
+    {"pole tide, anelastic", POLE, 0, 0, 0, 4, 1, 0, 0, 0, ONE},
+    {"pole tide, anelastic", POLE, 0, 0, 0, 12, 1, 0, 0, 0, ONE},
+    {"pole tide, anelastic", POLE, 0, 0, 0, 60, 1, 0, 0, 0, ONE},
+    {"pole tide, elastic", POLE, 0, 0, 0, 12, 0, 0, 0, 0, ONE},
 };
 
 /* a ratio beside the one to reach */
 static void put_ratio(double ratio, double most)
 {
-    if (most > 0) printf(" %.2f | %.2f%s |", ratio, most, ratio > most ? " above" : "");
+    if (most > 0) printf(" %.2f | %g%s |", ratio, most, ratio > most ? " above" : "");
     else printf(" %.2f | |", ratio);
 }
 
@@ -486,17 +523,21 @@ static void compare(const row *r)
 {
     double best[WAYS + 1], c_time;
     const char *by;
+    uint32_t unit;
     for (int i = 0; i <= WAYS; i++) best[i] = 1e18;
     n = r->n;
     choice = r->choice;
-    if (r->what == OCEAN) make_sheet(r->lines, r->tides, r->places);
+    if (r->what == OCEAN || r->what == TWINS) make_sheet(r->lines, r->tides, r->places);
+    if (r->what == TWINS) make_twins((size_t)r->lines - 2, (size_t)r->lines - 1);
     if (r->what == OWN) make_lines(r->lines);
     if (r->what == SOLID || r->what == ANEW) make_selection(r->lines);
     if (r->what == MOVE) make_move(r->choice);
     make_epochs(r->epochs);
     memset(c, 0, sizeof c);
     memset(s, 0, sizeof s);
-    hold(r->what);
+    answer = unit = hold(r->what);
+    call(r->what, DOUBLES);
+    if (answer != unit || (unit == 16) != (r->what == TWINS)) { printf("%s: the unit answers %u, doubles %u\n", r->name, unit, answer); exit(1); }
     for (int k = 0; k < ROUNDS; k++)
         for (int i = 0; i <= WAYS; i++) if (has(i, r->what)) time_once(r->what, i, &best[i]);
     c_time = best_c(best, &by);
@@ -505,8 +546,12 @@ static void compare(const row *r)
     printf(" | %.0f | %.0f %s | %.0f |", best[0], c_time, by, best[DOUBLES]);
     put_ratio(best[0] / c_time, r->of_c);
     put_ratio(best[0] / best[DOUBLES], r->of_doubles);
-    if (!has(EARLIER, r->what)) printf(" | |");
-    else if (EARLIER < WAYS) printf(" %.0f | %.2f |", best[EARLIER], best[0] / best[EARLIER]);
+    if (!has(EARLIER, r->what)) {
+        printf(" | | |");
+    } else if (EARLIER < WAYS) {
+        printf(" %.0f |", best[EARLIER]);
+        put_ratio(best[0] / best[EARLIER], has(EARLIER, TWINS) ? 0 : r->of_earlier);
+    }
     puts("");
 }
 
@@ -550,8 +595,9 @@ int main(void)
     arcseconds[1] = 1e-6 * (double)yp;
 
     puts("Nanoseconds a call, the least of many rounds. A sheet is lines/tides/places.\n");
-    printf("| call | N | unit | best C | doubles | unit/C | at most | unit/doubles | at most |%s\n", EARLIER < WAYS ? " earlier | unit/earlier |" : "");
-    printf("|---|---|---|---|---|---|---|---|---|%s\n", EARLIER < WAYS ? "---|---|" : "");
+    printf("| call | N | unit | best C | doubles | unit/C | at most | unit/doubles | at most |%s\n",
+           EARLIER < WAYS ? " earlier | unit/earlier | at most |" : "");
+    printf("|---|---|---|---|---|---|---|---|---|%s\n", EARLIER < WAYS ? "---|---|---|" : "");
     for (size_t i = 0; i < sizeof rows / sizeof *rows; i++) compare(&rows[i]);
 
     printf("\n| one more | the unit at four sizes |");

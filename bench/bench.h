@@ -38,6 +38,8 @@ __attribute__((weak)) move_call earlier_surfgimlet_move_hour;
 own_call earlier_surfgimlet_own_lines;
 __attribute__((weak)) pole_call earlier_surfgimlet_pole_tide;
 ocean_call earlier_surfgimlet_ocean_tide;
+typedef uint32_t version_call(void);
+version_call earlier_surfgimlet_version;
 
 /* doubles.c: phases and amounts in radians, offsets in arcseconds */
 typedef struct { double phases[6], cosines[49], sines[49]; } doubles_hour;
