@@ -11,12 +11,13 @@ use lib.Ieee.{Float, nan, inf, fin, binary64, up, down, lt, odd, ofFields, ofBit
 use lib.Ieee.Bits.{ofBits-toBits}
 use lib.Ieee.Exact.{HasValue, odd-sign}
 use lib.Ieee.Fits.{and-l, and-r, down-pos}
-use Rattle.whole.specs.Nearest.{nearest}
-use Rattle.whole.proofs.Parts.{abs, abs-le, abs-neg, abs-product, difference}
+use Rattle.whole.specs.Nearest.{signed, nearest}
+use Rattle.whole.proofs.Parts.{abs, abs-le, abs-product, difference}
 use Rattle.whole.proofs.Rounding.{nearest-near}
+use Rattle.whole.proofs.Signed.{abs-signed}
 use Rattle.limits.specs.Limits.{isCountable}
 use Rattle.doubles.specs.Doubles.{number, minus-number}
-use Rattle.count.specs.Count.{signed, count}
+use Rattle.count.specs.Count.{count}
 
 pub no-nan : (x : Float) → T (isCountable x) → T (not (isNan x))
 unfolding lt round isNan
@@ -70,11 +71,6 @@ field-of x f h =
     field-lt _ (b % 2 ^ 63 / 2 ^ 52) (b % 2 ^ 52) (subst (λ (y : Float). T (isCountable y)) (sym (ofBits-toBits binary64 x f)) h)
 
 -- ---- the count
-abs-signed : (s : Bool) (n : ℕ) → natAbs (signed s n) ≡ n
-unfolding signed
-abs-signed false n = omega arith
-abs-signed true n = omega (arith, abs-neg (pos n))
-
 -- a whole number within one half of z / n, where z / n is below 2^52 in size
 small : (c z : ℤ) (n : ℕ) → 2 * natAbs (c *ℤ pos n -ℤ z) ≤ n → natAbs z < 2 ^ 52 * n → natAbs c ≤ 2 ^ 52
 small c z n h k =

@@ -11,9 +11,10 @@ use lib.Ieee.{Float, nan, inf, fin, binary64, up, down, odd, ofFields, ofBits}
 use lib.Ieee.Fits.{down-pos}
 use lib.Ieee.Exact.{HasValue, odd-sign}
 use borrow.Author.Tests.{ne-eqb}
-use Rattle.whole.specs.Nearest.{nearest}
-use Rattle.count.specs.Count.{signed, count}
-use Rattle.count.proofs.Halves.{rounded, nearest-same, nearest-is, nearest-none, rounded-none}
+use Rattle.whole.specs.Nearest.{signed, nearest}
+use Rattle.count.specs.Count.{count}
+use Rattle.whole.proofs.Signed.{nearest-same, nearest-none}
+use Rattle.count.proofs.Halves.{rounded, nearest-is, rounded-none}
 
 -- ---- the value q * 2^j / 2^1074, with h + 1 places after the point
 module _ (n d q j h : ℕ) (J : j + (h + 1) ≡ 1074) (v : n * 2 ^ 1074 ≡ q * 2 ^ j * d) where

@@ -1,13 +1,8 @@
 -- Document 01, "Step one": the nearest count of a float's exact value.
-use mathlib.Core.Bool.{Bool, true, false}
-use Prim.Native.Nat.{ℕ, _*_}
-use lib.IntN.{ℤ, pos, negℤ}
+use Prim.Native.Nat.{_*_}
+use lib.IntN.{ℤ, pos}
 use lib.Ieee.{Float, nan, inf, fin, up, down}
-use Rattle.whole.specs.Nearest.{nearest}
-
-unfoldable pub signed : Bool → ℕ → ℤ
-signed false n = pos n
-signed true n = negℤ (pos n)
+use Rattle.whole.specs.Nearest.{signed, nearest}
 
 -- "nearest count of the float's exact value": ± m * 2^e is the fraction ± (m * up e) / down e. What has no value has no count.
 unfoldable pub count : Float → ℤ

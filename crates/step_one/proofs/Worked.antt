@@ -4,12 +4,12 @@ use mathlib.Core.Path.{_≡_, refl}
 use mathlib.Core.List.{[], _∷_}
 use lib.IntN.{pos, negℤ}
 use lib.Ieee.{round, neg, add, sub, mul, div, lt, eq, le}
-use Rattle.whole.specs.Nearest.{nearest}
+use Rattle.whole.specs.Nearest.{signed, nearest}
 use Rattle.doubles.specs.Doubles.{decimal, minus-decimal, number}
 use Rattle.choices.specs.declared.LoveModel.{LoveModel}
 use Rattle.choices.specs.declared.LoveModel.the-variants.{Elastic, Anelastic}
 use Rattle.refusals.specs.Told.Told.{accepted}
-use Rattle.count.specs.Count.{count, signed}
+use Rattle.count.specs.Count.{count}
 use Rattle.powers.specs.Powers.{E, F}
 use Rattle.constants.specs.Love.{loves, loves3}
 use Rattle.constants.specs.Norms.{norms, roots}

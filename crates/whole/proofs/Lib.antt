@@ -6,6 +6,7 @@ pub mod Held
 pub mod Signs
 pub mod Floor
 pub mod Rounding
+pub mod Signed
 pub mod Sums
 pub mod Bits
 pub mod Counted

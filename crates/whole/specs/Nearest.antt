@@ -1,7 +1,13 @@
 -- The one rounding of document 01, as document 02, T-07 has it: "Nearest now means: halves go away from zero".
+use mathlib.Core.Bool.{Bool, true, false}
 use mathlib.Core.Path.{_≡_}
 use Prim.Native.Nat.{ℕ, suc, _+_, _*_, _/_, _≤_, _<_}
 use lib.IntN.{ℤ, pos, negsuc, negℤ, natAbs, _-ℤ_, _*ℤ_}
+
+-- a size with a sign: minus where the Bool says so
+unfoldable pub signed : Bool → ℕ → ℤ
+signed false n = pos n
+signed true n = negℤ (pos n)
 
 -- floor(a / n + 1/2), for an n above 0
 abbrev pub halfUp : ℕ → ℕ → ℕ

@@ -11,7 +11,8 @@ use mir.Val.{toZ, ofZ}
 use borrow.Author.Needs.{needs}
 use borrow.Author.Tests.{lt-leb, le-leb}
 use Rattle.whole.proofs.Machine.{back, minus-fits, minus-read}
-use Rattle.count.specs.Count.{signed, count}
+use Rattle.whole.specs.Nearest.{signed}
+use Rattle.count.specs.Count.{count}
 use Rattle.count.proofs.Halves.{rounded}
 use Rattle.count.proofs.Fields.{digits, count-of-bits}
 use Rattle.count.proofs.nearest_of_bits.Statement.{statement}
