@@ -1,0 +1,1 @@
+// Whole numbers and decimals of a gravity field file, taken exactly.

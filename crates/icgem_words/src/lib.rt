@@ -1,0 +1,1 @@
+// The lines and words of a gravity field file.
