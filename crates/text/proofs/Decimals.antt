@@ -35,7 +35,7 @@ last-digit (suc n) h =
     ∙ ap (λ (s : List ℕ). s ++ (digit (suc n % 10) ∷ [])) (same n (suc n / 10) (ltb (suc n / 10) 10) (suc n / 10) refl (omega arith) (omega arith))
 
 -- a number below 10^(k + 1) has at most k + 1 digits
-digits-most : (k n : ℕ) (below : Bool) → ltb n 10 ≡ below → n < 10 ^ suc k → length (decimal n) ≤ suc k
+pub digits-most : (k n : ℕ) (below : Bool) → ltb n 10 ≡ below → n < 10 ^ suc k → length (decimal n) ≤ suc k
 digits-most zero n true e h = rw (one-digit n (ltb-true n 10 e)) (omega arith)
 digits-most zero n false e h = absurd (omega (arith, ltb-false n 10 e, pow-suc 10 0, pow-zero 10))
 digits-most (suc k) n true e h = rw (one-digit n (ltb-true n 10 e)) (omega arith)

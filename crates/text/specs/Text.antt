@@ -2,11 +2,12 @@
 use mathlib.Core.Bool.{Bool, true, false}
 use mathlib.Core.List.{List, [], _∷_, _++_}
 use Prim.Native.Char.{code}
-use Prim.Native.Nat.{ℕ, zero, suc, _+_, _/_, _%_}
+use Prim.Native.Nat.{ℕ, zero, suc, _+_, _-_, _/_, _%_, _^_}
 use Prim.Native.String.{String}
 use Prim.Native.String as string
 use lib.Dec.{ltb}
 use lib.IntN.{ℤ, pos, negsuc}
+use lib.ListN.{length, replicate}
 
 -- the ASCII codes of a quoted text
 unfoldable pub ascii : String → List ℕ
@@ -31,3 +32,25 @@ decimal n = digits n (ltb n 10) n
 unfoldable pub number : ℤ → List ℕ
 number (pos n) = decimal n
 number (negsuc n) = ascii "-" ++ decimal (suc n)
+
+-- the last digits of n, as many as are asked for, leading zeros kept
+unfoldable pub lastDigits : ℕ → ℕ → List ℕ
+lastDigits zero n = []
+lastDigits (suc count) n = lastDigits count (n / 10) ++ (digit (n % 10) ∷ [])
+
+-- n / 10^decimals, each decimal written
+unfoldable pub fixedPoint : ℕ → ℕ → List ℕ
+fixedPoint decimals n = decimal (n / 10 ^ decimals) ++ ascii "." ++ lastDigits decimals n
+
+-- a minus sign before a negative one
+unfoldable pub signedPoint : ℕ → ℤ → List ℕ
+signedPoint decimals (pos n) = fixedPoint decimals n
+signedPoint decimals (negsuc n) = ascii "-" ++ fixedPoint decimals (suc n)
+
+-- spaces, as many as are asked for
+abbrev pub spaces : ℕ → List ℕ
+spaces count = replicate count 32
+
+-- a text at the end of so many columns, spaces before it
+unfoldable pub padded : ℕ → List ℕ → List ℕ
+padded columns text = spaces (columns - length text) ++ text

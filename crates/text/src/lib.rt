@@ -1,8 +1,9 @@
 // Text in a lent buffer: bytes, words and decimal numbers, each put at a place; the answer is the place after it.
 ghost use mathlib.Core.List.{[], _∷_};
-ghost use Prim.Native.Nat.{_+_, _≤_, _<_};
+ghost use mathlib.Core.Path.{_≡_};
+ghost use Prim.Native.Nat.{_+_, _/_, _^_, _≤_, _<_};
 ghost use lib.ListN.{length};
-ghost use Rattle.text.specs.Text.{decimal, number};
+ghost use Rattle.text.specs.Text.{decimal, number, lastDigits, fixedPoint, signedPoint, spaces, padded};
 ghost use Rattle.text.specs.Inner.{Put};
 
 // Puts one byte.
@@ -50,5 +51,44 @@ pub fn put_number(out: &mut [u8], at: usize, z: i64) -> usize
         put_decimal(out, next, whole::size_of(z))
     } else {
         put_decimal(out, at, whole::size_of(z))
+    }
+}
+
+// How many digits a number has in decimal.
+pub fn digits_in(n: u64) -> usize
+    ensures { λ r. ⌜ r ≡ length (decimal n) ⌝ }
+{
+    let mut digits = 1;
+    let mut rest = n;
+    while 9 < rest {
+        rest = rest / 10;
+        digits += 1;
+    }
+    digits
+}
+
+// Puts so many spaces.
+pub fn put_spaces(out: &mut [u8], at: usize, count: usize) -> usize
+    requires { ⌜ at + count ≤ length (now out) ⌝ }
+    ensures { λ r. ⌜ Put (now (out .entry)) at (spaces count) (now (out .exit)) r ⌝ }
+{
+    let mut i = 0;
+    while i < count {
+        out[at + i] = b' ';
+        i += 1;
+    }
+    at + i
+}
+
+// Puts the last digits of a number.
+pub fn put_last(out: &mut [u8], at: usize, count: usize, n: u64) -> usize
+    requires { ⌜ at + count ≤ length (now out) ⌝ }
+    ensures { λ r. ⌜ Put (now (out .entry)) at (lastDigits count n) (now (out .exit)) r ⌝ }
+{
+    if count == 0 {
+        at
+    } else {
+        let next = put_last(out, at, count - 1, n / 10);
+        put_byte(out, next, 48 + (n % 10) as u8)
     }
 }
