@@ -3,15 +3,17 @@ use mathlib.Core.Path.{_≡_, refl, sym, ap, _∙_}
 use mathlib.Core.List.{List, [], _∷_, _++_}
 use Prim.Native.Nat.{ℕ, zero, suc, _+_, _-_, _/_, _%_, _^_, _≤_, _<_}
 use native.Mathlib.Omega.{arith}
-use lib.IntN.{ℤ, pos, negsuc, natAbs}
 use lib.ListN.{length, replicate, set, length-append, length-replicate, replicate-append-replicate}
-use Rattle.text.specs.Text.{ascii, digit, decimal, lastDigits, fixedPoint, signedPoint, spaces, padded}
+use Rattle.text.specs.Text.{ascii, digit, decimal, lastDigits, fixedPoint, spaces, padded}
 use Rattle.text.specs.Inner.{Put}
 use Rattle.text.proofs.Puts.{put-then}
 
 -- one space more
 pub put-space : {l l′ : List ℕ} {at : ℕ} (i : ℕ) → Put l at (spaces i) l′ (at + i) → Put l at (spaces (i + 1)) (set l′ (at + i) 32) (at + (i + 1))
 put-space {l} {l′} {at} i p = rw (← replicate-append-replicate {A = ℕ} i 1 32) (put-then p (record { next-is = omega arith; bytes-are = refl }))
+
+pub spaces-length : (count : ℕ) → length (spaces count) ≡ count
+spaces-length count = length-replicate {A = ℕ} count 32
 
 pub last-length : (count n : ℕ) → length (lastDigits count n) ≡ count
 unfolding lastDigits
@@ -37,4 +39,4 @@ fixed-length decimals n =
 -- a text that the columns hold fills them
 pub padded-length : (columns : ℕ) (text : List ℕ) → length text ≤ columns → length (padded columns text) ≡ columns
 unfolding padded
-padded-length columns text h = omega (arith, length-append (spaces (columns - length text)) text, length-replicate {A = ℕ} (columns - length text) 32)
+padded-length columns text h = omega (arith, length-append (spaces (columns - length text)) text, spaces-length (columns - length text))

@@ -42,10 +42,10 @@ lastDigits (suc count) n = lastDigits count (n / 10) ++ (digit (n % 10) ∷ [])
 unfoldable pub fixedPoint : ℕ → ℕ → List ℕ
 fixedPoint decimals n = decimal (n / 10 ^ decimals) ++ ascii "." ++ lastDigits decimals n
 
--- a minus sign before a negative one
-unfoldable pub signedPoint : ℕ → ℤ → List ℕ
-signedPoint decimals (pos n) = fixedPoint decimals n
-signedPoint decimals (negsuc n) = ascii "-" ++ fixedPoint decimals (suc n)
+-- a minus sign, or none
+unfoldable pub sign : Bool → List ℕ
+sign true = ascii "-"
+sign false = []
 
 -- spaces, as many as are asked for
 abbrev pub spaces : ℕ → List ℕ

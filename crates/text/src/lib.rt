@@ -1,9 +1,9 @@
 // Text in a lent buffer: bytes, words and decimal numbers, each put at a place; the answer is the place after it.
 ghost use mathlib.Core.List.{[], _∷_};
 ghost use mathlib.Core.Path.{_≡_};
-ghost use Prim.Native.Nat.{_+_, _/_, _^_, _≤_, _<_};
+ghost use Prim.Native.Nat.{_+_, _≤_, _<_};
 ghost use lib.ListN.{length};
-ghost use Rattle.text.specs.Text.{decimal, number, lastDigits, fixedPoint, signedPoint, spaces, padded};
+ghost use Rattle.text.specs.Text.{decimal, number, lastDigits, spaces};
 ghost use Rattle.text.specs.Inner.{Put};
 
 // Puts one byte.
