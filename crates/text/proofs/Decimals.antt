@@ -43,6 +43,9 @@ digits-most (suc k) n false e h =
     let fewer = digits-most k (n / 10) (ltb (n / 10) 10) refl (omega (arith, pow-suc 10 (suc k))) in
     rw (last-digit n (ltb-false n 10 e), length-append (decimal (n / 10)) (digit (n % 10) ∷ [])) (omega arith)
 
--- a number of the machine has at most 19
+-- a number of 64 bits has at most 20, and one with a sign 19
+pub word-most : (n : ℕ) → n < 2 ^ 64 → length (decimal n) ≤ 20
+word-most n h = digits-most 19 n (ltb n 10) refl (omega arith)
+
 pub decimal-most : (n : ℕ) → n ≤ 2 ^ 63 → length (decimal n) ≤ 19
 decimal-most n h = digits-most 18 n (ltb n 10) refl (omega arith)

@@ -1,0 +1,1 @@
+// The words of a gravity field file.
