@@ -1,1 +1,112 @@
-// The lines and words of a gravity field file.
+// The lines and words of a gravity field file (document 02, T-10): where each ends, and whether two words are the same.
+ghost use mathlib.Core.Path.{_≡_};
+ghost use Prim.Native.Nat.{_≤_};
+ghost use lib.ListN.{length, drop};
+ghost use Rattle.icgem_words.specs.Words.{isLineEnd, isBlank, words, sameWord};
+ghost use Rattle.icgem_words.specs.Inner.{inLine, inWord, Run, NextWord};
+
+pub fn is_line_end(b: u8) -> bool
+    ensures { λ r. ⌜ r ≡ isLineEnd b ⌝ }
+{
+    (b == 10) | (b == 13)
+}
+
+pub fn is_blank(b: u8) -> bool
+    ensures { λ r. ⌜ r ≡ isBlank b ⌝ }
+{
+    (b == 32) | (b == 9)
+}
+
+// The end of the line that a place stands in.
+pub fn line_end(text: &[u8], from: usize) -> usize
+    requires { ⌜ from ≤ length (now text) ⌝ }
+    ensures { λ r. ⌜ Run inLine (now (text .entry)) from r ⌝ }
+{
+    let mut at = from;
+    while at < text.len() {
+        if is_line_end(text[at]) {
+            return at;
+        }
+        at += 1;
+    }
+    at
+}
+
+// The end of the blanks from a place on.
+fn blanks_end(line: &[u8], from: usize) -> usize
+    requires { ⌜ from ≤ length (now line) ⌝ }
+    ensures { λ r. ⌜ Run isBlank (now (line .entry)) from r ⌝ }
+{
+    let mut at = from;
+    while at < line.len() {
+        if is_blank(line[at]) {
+            at += 1;
+        } else {
+            return at;
+        }
+    }
+    at
+}
+
+// The end of the word that a place stands in.
+fn word_end(line: &[u8], from: usize) -> usize
+    requires { ⌜ from ≤ length (now line) ⌝ }
+    ensures { λ r. ⌜ Run inWord (now (line .entry)) from r ⌝ }
+{
+    let mut at = from;
+    while at < line.len() {
+        if is_blank(line[at]) {
+            return at;
+        }
+        at += 1;
+    }
+    at
+}
+
+pub struct Span {
+    pub from: usize,
+    pub to: usize,
+}
+
+// The first word at or after a place; empty, at the line's end, where there is none.
+pub fn next_word(line: &[u8], at: usize) -> Span
+    requires { ⌜ at ≤ length (now line) ⌝ }
+    ensures { λ r. ⌜ NextWord (now (line .entry)) at (r .from) (r .to) ⌝ }
+{
+    let from = blanks_end(line, at);
+    let to = word_end(line, from);
+    Span { from: from, to: to }
+}
+
+// How many words stand from a place on.
+pub fn count_words(line: &[u8], at: usize) -> usize
+    requires { ⌜ at ≤ length (now line) ⌝ }
+    ensures { λ r. ⌜ r ≡ length (words (drop at (now (line .entry)))) ⌝ }
+{
+    let mut count = 0;
+    let mut place = at;
+    while place < line.len() {
+        let word = next_word(line, place);
+        if word.from < word.to {
+            count += 1;
+        }
+        place = word.to;
+    }
+    count
+}
+
+pub fn same_word(word: &[u8], other: &[u8]) -> bool
+    ensures { λ r. ⌜ r ≡ sameWord (now (word .entry)) (now (other .entry)) ⌝ }
+{
+    if word.len() != other.len() {
+        return false;
+    }
+    let mut i = 0;
+    while i < word.len() {
+        if word[i] != other[i] {
+            return false;
+        }
+        i += 1;
+    }
+    true
+}

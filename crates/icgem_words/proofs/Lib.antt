@@ -1,0 +1,4 @@
+pub mod Runs
+pub mod Joined
+pub mod Read
+pub mod Same
