@@ -7,7 +7,7 @@ use native.Mathlib.Omega.{arith}
 use borrow.Author.Tests.{not-true}
 use lib.ListN.{length}
 use Rattle.icgem_words.specs.Words.{onFirst, pieces, nonempty, isLineEnd, isBlank, lines, words, worded}
-use Rattle.icgem_words.specs.Inner.{allOf, noneOf, isEmpty, ahead}
+use Rattle.icgem_words.specs.Inner.{allOf, noneOf, ahead}
 use Rattle.icgem_words.proofs.Runs.{all-head, all-tail}
 
 -- ---- pieces
@@ -31,17 +31,19 @@ module _ (parts : ℕ → Bool) where
   pieces-then (x ∷ run) b rest h e = rw (kept x run h, pieces-then run b rest (kept-on x run h) e)
 
 -- ---- those that are not empty
-pub nonempty-first : {A : Type 0} (piece : List A) (others : List (List A)) → nonempty (piece ∷ others) ≡ ahead piece (nonempty others)
-unfolding nonempty
-nonempty-first [] others = refl
-nonempty-first (x ∷ xs) others = refl
+module _ {A : Type 0} where
+  pub nonempty-first : (piece : List A) (others : List (List A)) → nonempty (piece ∷ others) ≡ ahead piece (nonempty others)
+  unfolding nonempty
+  nonempty-first [] others = refl
+  nonempty-first (x ∷ piece) others = refl
 
-not-empty : (text : List ℕ) → 0 < length text → isEmpty text ≡ false
-not-empty [] h = absurd (omega arith)
-not-empty (b ∷ text) h = refl
+  pub ahead-some : (piece : List A) (others : List (List A)) → 0 < length piece → ahead piece others ≡ piece ∷ others
+  ahead-some [] others h = absurd (omega arith)
+  ahead-some (x ∷ piece) others h = refl
 
-nonempty-kept : (word : List ℕ) (others : List (List ℕ)) → 0 < length word → nonempty (word ∷ others) ≡ word ∷ nonempty others
-nonempty-kept word others h = nonempty-first word others ∙ rw (not-empty word h)
+  pub ahead-none : (piece : List A) (others : List (List A)) → length piece ≡ 0 → ahead piece others ≡ others
+  ahead-none [] others h = refl
+  ahead-none (x ∷ piece) others h = absurd (omega arith)
 
 -- ---- words
 pub words-none : words [] ≡ []
@@ -59,10 +61,10 @@ words-blanks (b ∷ blanks) rest h = words-blank b (blanks ++ rest) (all-head is
 module _ (word : List ℕ) (h : noneOf isBlank word ≡ true) (some : 0 < length word) where
   pub words-last : words word ≡ word ∷ []
   unfolding nonempty
-  words-last = ap nonempty (pieces-last isBlank word h) ∙ nonempty-kept word [] some
+  words-last = ap nonempty (pieces-last isBlank word h) ∙ nonempty-first word [] ∙ ahead-some word [] some
 
   pub words-then : (b : ℕ) (rest : List ℕ) → isBlank b ≡ true → words (word ++ b ∷ rest) ≡ word ∷ words rest
-  words-then b rest e = ap nonempty (pieces-then isBlank word b rest h e) ∙ nonempty-kept word (pieces isBlank rest) some
+  words-then b rest e = ap nonempty (pieces-then isBlank word b rest h e) ∙ nonempty-first word (pieces isBlank rest) ∙ ahead-some word (words rest) some
 
 -- ---- lines
 module _ (line : List ℕ) (h : noneOf isLineEnd line ≡ true) where
@@ -71,10 +73,6 @@ module _ (line : List ℕ) (h : noneOf isLineEnd line ≡ true) where
 
   pub lines-then : (b : ℕ) (rest : List ℕ) → isLineEnd b ≡ true → lines (line ++ b ∷ rest) ≡ line ∷ lines rest
   lines-then b rest e = pieces-then isLineEnd line b rest h e
-
-  pub worded-last : worded line ≡ ahead (words line) []
-  unfolding worded nonempty
-  worded-last = rw lines-last (nonempty-first (words line) [])
 
   pub worded-then : (b : ℕ) (rest : List ℕ) → isLineEnd b ≡ true → worded (line ++ b ∷ rest) ≡ ahead (words line) (worded rest)
   unfolding worded

@@ -1,7 +1,7 @@
 -- What a reader that goes along a text's lines, and along a line's words, has in front of it.
-use mathlib.Core.Path.{_≡_, refl, ap, _∙_}
+use mathlib.Core.Path.{_≡_, refl, sym, ap, _∙_}
 use mathlib.Core.Bool.{Bool, true, false, cond}
-use mathlib.Core.List.{List, [], _∷_, _++_, append-nil}
+use mathlib.Core.List.{List, [], _∷_, _++_, map, append-nil}
 use Prim.Native.Nat.{ℕ, _+_, _-_, _≤_, _<_}
 use native.Mathlib.Numerals.{add-one}
 use native.Mathlib.Omega.{arith}
@@ -12,7 +12,8 @@ use lib.Seq.{drop-cons, length-take-le}
 use Rattle.icgem_words.specs.Words.{pieces, nonempty, isBlank, lines, words, worded}
 use Rattle.icgem_words.specs.Inner.{part, ahead, inLine, inWord, Run, NextWord}
 use Rattle.icgem_words.proofs.Runs.{cut}
-use Rattle.icgem_words.proofs.Joined.{words-none, words-blanks, words-last, words-then, words-blank, lines-last, lines-then, worded-last, worded-then}
+use Rattle.icgem_words.proofs.Joined.{nonempty-first, ahead-some, ahead-none, words-none, words-blank, words-blanks, words-last, words-then}
+use Rattle.icgem_words.proofs.Joined.{lines-last, lines-then}
 
 -- what stands from a place on: its byte and the rest
 from-place : (text : List ℕ) (at : ℕ) → at < length text → drop at text ≡ getD text at 0 ∷ drop (at + 1) text
@@ -44,17 +45,27 @@ module _ {text : List ℕ} {from to : ℕ} (r : Run inLine text from to) where
           ap lines (run-then r h) ∙ lines-then (part from to text) (r .passed) (getD text to 0) (drop (to + 1) text) (not-false _ (r .stops h))
       by-test false e = ap lines (run-last r (ltb-false to (length text) e)) ∙ lines-last (part from to text) (r .passed)
 
+  after : nonempty (map words (cond (ltb to (length text)) (lines (drop (to + 1) text)) [])) ≡ worded (drop (to + 1) text)
+  unfolding worded nonempty
+  after = by-test (ltb to (length text)) refl
+    where
+      by-test : (t : Bool) → ltb to (length text) ≡ t → nonempty (map words (cond t (lines (drop (to + 1) text)) [])) ≡ nonempty (map words (lines (drop (to + 1) text)))
+      by-test true e = refl
+      by-test false e = sym (worded-past text (to + 1) (omega (arith, ltb-false to (length text) e)))
+
   -- the line's words, where it has one, in front of those of the lines after it
   pub worded-from : worded (drop from text) ≡ ahead (words (part from to text)) (worded (drop (to + 1) text))
-  worded-from = by-test (ltb to (length text)) refl
-    where
-      by-test : (t : Bool) → ltb to (length text) ≡ t → worded (drop from text) ≡ ahead (words (part from to text)) (worded (drop (to + 1) text))
-      by-test true e =
-          let h = ltb-true to (length text) e in
-          ap worded (run-then r h) ∙ worded-then (part from to text) (r .passed) (getD text to 0) (drop (to + 1) text) (not-false _ (r .stops h))
-      by-test false e =
-          let h = ltb-false to (length text) e in
-          ap worded (run-last r h) ∙ worded-last (part from to text) (r .passed) ∙ rw (worded-past text (to + 1) (omega arith))
+  unfolding worded
+  worded-from =
+      ap (λ (l : List (List ℕ)). nonempty (map words l)) lines-from
+      ∙ nonempty-first (words (part from to text)) _
+      ∙ ap (ahead (words (part from to text))) after
+
+  pub worded-some : 0 < length (words (part from to text)) → worded (drop from text) ≡ words (part from to text) ∷ worded (drop (to + 1) text)
+  worded-some h = worded-from ∙ ahead-some (words (part from to text)) (worded (drop (to + 1) text)) h
+
+  pub worded-none : length (words (part from to text)) ≡ 0 → worded (drop from text) ≡ worded (drop (to + 1) text)
+  worded-none h = worded-from ∙ ahead-none (words (part from to text)) (worded (drop (to + 1) text)) h
 
 -- ---- words
 pub words-past : (line : List ℕ) (at : ℕ) → length line ≤ at → words (drop at line) ≡ []

@@ -25,7 +25,7 @@ isEmpty (x ∷ xs) = false
 abbrev pub ahead : {A : Type 0} → List A → List (List A) → List (List A)
 ahead piece others = cond (isEmpty piece) others (piece ∷ others)
 
--- to is the first place, from from on, whose byte fails a test, or the text's end
+-- a run of bytes that pass a test: `to` is the first place, at or after `from`, whose byte fails it, or the text's end
 pub record Run (test : ℕ → Bool) (text : List ℕ) (from to : ℕ) : Type 0 where
   pub low : from ≤ to
   pub within : to ≤ length text
@@ -38,7 +38,7 @@ inLine b = not (isLineEnd b)
 abbrev pub inWord : ℕ → Bool
 inWord b = not (isBlank b)
 
--- the first word at or after a place, or the line's end twice
+-- the first word at or after a place; where there is none, both ends are the line's
 pub record NextWord (line : List ℕ) (at from to : ℕ) : Type 0 where
   pub low : at ≤ from
   pub ordered : from ≤ to

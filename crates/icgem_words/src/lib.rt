@@ -17,7 +17,7 @@ pub fn is_blank(b: u8) -> bool
     (b == 32) | (b == 9)
 }
 
-// The end of the line that a place stands in.
+// The first line end at or after a place, or the text's end.
 pub fn line_end(text: &[u8], from: usize) -> usize
     requires { ⌜ from ≤ length (now text) ⌝ }
     ensures { λ r. ⌜ Run inLine (now (text .entry)) from r ⌝ }
@@ -32,7 +32,7 @@ pub fn line_end(text: &[u8], from: usize) -> usize
     at
 }
 
-// The end of the blanks from a place on.
+// The first byte at or after a place that is no blank, or the line's end.
 fn blanks_end(line: &[u8], from: usize) -> usize
     requires { ⌜ from ≤ length (now line) ⌝ }
     ensures { λ r. ⌜ Run isBlank (now (line .entry)) from r ⌝ }
@@ -48,7 +48,7 @@ fn blanks_end(line: &[u8], from: usize) -> usize
     at
 }
 
-// The end of the word that a place stands in.
+// The first blank at or after a place, or the line's end.
 fn word_end(line: &[u8], from: usize) -> usize
     requires { ⌜ from ≤ length (now line) ⌝ }
     ensures { λ r. ⌜ Run inWord (now (line .entry)) from r ⌝ }

@@ -30,7 +30,9 @@ loop-less : tie.Need-loop-less Inv-loop μ-loop
 loop-less c = search needs
 
 loop-again : tie.Need-loop-again Inv-loop μ-loop
-loop-again c = let l = c .before .before .before in passed-more (l .before .loop .inv) (l .loop-test .taken) (sym (c .before .is-blank .ensures) ∙ c .if1 .taken)
+loop-again c =
+    let l = c .before .before .before in
+    passed-more (l .before .loop .inv) (l .loop-test .taken) (sym (c .before .is-blank .ensures) ∙ c .if1 .taken)
 
 returns : tie.Need-returns Inv-loop μ-loop
 returns c = run-stops (c .before .before .before .before .loop .inv) (sym (c .before .is-blank .ensures) ∙ c .if1 .left)

@@ -1,10 +1,9 @@
 -- Each turn finds one byte more the same.
 use borrow.Author.Needs.{needs}
 use mathlib.Core.Path.{_≡_, sym, ap}
-use mathlib.Core.List.{List}
-use Prim.Native.Nat.{ℕ, _-_, _≤_}
+use Prim.Native.Nat.{_-_, _≤_}
 use native.Mathlib.Omega.{arith}
-use lib.ListN.{length, getD, take}
+use lib.ListN.{length, take}
 use Rattle.icgem_words.proofs.Same.{equal-same, other-not-same, take-more, take-equal}
 use Rattle.icgem_words.proofs.same_word.Statement.{statement}
 use Rattle.icgem_words.proofs.same_word.Tie as tie
@@ -28,7 +27,7 @@ shared-slice-read-if2-2 : tie.Need-shared-slice-read-if2-2 Inv-loop μ-loop
 shared-slice-read-if2-2 c = search needs
 
 returns-2 : tie.Need-returns-2 Inv-loop μ-loop
-returns-2 c = sym (other-not-same _ _ (λ e. c .if2 .taken (ap (λ (l : List ℕ). getD l (c .before .before .before .before .loop .i) 0) e)))
+returns-2 c = sym (other-not-same _ _ (λ e. c .if2 .taken (rw e)))
 
 add-i : tie.Need-add-i Inv-loop μ-loop
 add-i c = search needs

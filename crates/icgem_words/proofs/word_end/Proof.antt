@@ -34,7 +34,9 @@ loop-less : tie.Need-loop-less Inv-loop μ-loop
 loop-less c = search needs
 
 loop-again : tie.Need-loop-again Inv-loop μ-loop
-loop-again c = let l = c .before .before .before in passed-more (l .before .loop .inv) (l .loop-test .taken) (ap not (sym (c .before .is-blank .ensures) ∙ c .if1 .left))
+loop-again c =
+    let l = c .before .before .before in
+    passed-more (l .before .loop .inv) (l .loop-test .taken) (ap not (sym (c .before .is-blank .ensures) ∙ c .if1 .left))
 
 returns-2 : tie.Need-returns-2 Inv-loop μ-loop
 returns-2 c = run-ends (c .before .loop .inv) (c .loop-test .left)
