@@ -4,6 +4,8 @@ use mathlib.Core.Bool.{Bool, true, false, cond, not, _&&_}
 use mathlib.Core.List.{List, [], _∷_}
 use Prim.Native.Nat.{ℕ, _-_, _≤_, _<_}
 use lib.ListN.{length, getD, take, drop}
+use Rattle.icgem_words.specs.declared.Kind.{Kind}
+use Rattle.icgem_words.specs.declared.Kind.the-variants.{Line, Word, Blanks}
 use Rattle.icgem_words.specs.Words.{isLineEnd, isBlank, words}
 
 -- the bytes from a place up to another: the list of `&text[from..to]`
@@ -37,6 +39,11 @@ inLine b = not (isLineEnd b)
 
 abbrev pub inWord : ℕ → Bool
 inWord b = not (isBlank b)
+
+abbrev pub isOf : Kind → ℕ → Bool
+isOf Line b = inLine b
+isOf Word b = inWord b
+isOf Blanks b = isBlank b
 
 -- the first word at or after a place; where there is none, both ends are the line's
 pub record NextWord (line : List ℕ) (at from to : ℕ) : Type 0 where

@@ -3,7 +3,7 @@ ghost use mathlib.Core.Path.{_≡_};
 ghost use Prim.Native.Nat.{_≤_};
 ghost use lib.ListN.{length, drop};
 ghost use Rattle.icgem_words.specs.Words.{isLineEnd, isBlank, words, sameWord};
-ghost use Rattle.icgem_words.specs.Inner.{inLine, inWord, Run, NextWord};
+ghost use Rattle.icgem_words.specs.Inner.{inLine, isOf, Run, NextWord};
 
 pub fn is_line_end(b: u8) -> bool
     ensures { λ r. ⌜ r ≡ isLineEnd b ⌝ }
@@ -17,29 +17,31 @@ pub fn is_blank(b: u8) -> bool
     (b == 32) | (b == 9)
 }
 
-// The first line end at or after a place, or the text's end.
-pub fn line_end(text: &[u8], from: usize) -> usize
+// Whose bytes a run is of.
+enum Kind {
+    Line,
+    Word,
+    Blanks,
+}
+
+fn is_of(kind: Kind, b: u8) -> bool
+    ensures { λ r. ⌜ r ≡ isOf kind b ⌝ }
+{
+    match kind {
+        Kind::Line => !is_line_end(b),
+        Kind::Word => !is_blank(b),
+        Kind::Blanks => is_blank(b),
+    }
+}
+
+// The first byte at or after a place that is not of a kind, or the text's end.
+fn run_end(text: &[u8], from: usize, kind: Kind) -> usize
     requires { ⌜ from ≤ length (now text) ⌝ }
-    ensures { λ r. ⌜ Run inLine (now (text .entry)) from r ⌝ }
+    ensures { λ r. ⌜ Run (isOf kind) (now (text .entry)) from r ⌝ }
 {
     let mut at = from;
     while at < text.len() {
-        if is_line_end(text[at]) {
-            return at;
-        }
-        at += 1;
-    }
-    at
-}
-
-// The first byte at or after a place that is no blank, or the line's end.
-fn blanks_end(line: &[u8], from: usize) -> usize
-    requires { ⌜ from ≤ length (now line) ⌝ }
-    ensures { λ r. ⌜ Run isBlank (now (line .entry)) from r ⌝ }
-{
-    let mut at = from;
-    while at < line.len() {
-        if is_blank(line[at]) {
+        if is_of(kind, text[at]) {
             at += 1;
         } else {
             return at;
@@ -48,19 +50,12 @@ fn blanks_end(line: &[u8], from: usize) -> usize
     at
 }
 
-// The first blank at or after a place, or the line's end.
-fn word_end(line: &[u8], from: usize) -> usize
-    requires { ⌜ from ≤ length (now line) ⌝ }
-    ensures { λ r. ⌜ Run inWord (now (line .entry)) from r ⌝ }
+// The first line end at or after a place, or the text's end.
+pub fn line_end(text: &[u8], from: usize) -> usize
+    requires { ⌜ from ≤ length (now text) ⌝ }
+    ensures { λ r. ⌜ Run inLine (now (text .entry)) from r ⌝ }
 {
-    let mut at = from;
-    while at < line.len() {
-        if is_blank(line[at]) {
-            return at;
-        }
-        at += 1;
-    }
-    at
+    run_end(text, from, Kind::Line)
 }
 
 pub struct Span {
@@ -73,8 +68,8 @@ pub fn next_word(line: &[u8], at: usize) -> Span
     requires { ⌜ at ≤ length (now line) ⌝ }
     ensures { λ r. ⌜ NextWord (now (line .entry)) at (r .from) (r .to) ⌝ }
 {
-    let from = blanks_end(line, at);
-    let to = word_end(line, from);
+    let from = run_end(line, at, Kind::Blanks);
+    let to = run_end(line, from, Kind::Word);
     Span { from: from, to: to }
 }
 
