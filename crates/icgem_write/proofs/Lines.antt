@@ -2,20 +2,23 @@
 use mathlib.Core.Path.{_≡_, refl}
 use mathlib.Core.Bool.{Bool, true, false}
 use mathlib.Core.List.{List, [], _∷_, _++_}
-use Prim.Native.Nat.{ℕ, _+_, _-_, _/_, _^_, _≤_, _<_}
+use Prim.Native.Nat.{ℕ, _+_, _-_, _*_, _/_, _^_, _≤_, _<_}
+use native.Mathlib.Numerals.{add-one}
 use native.Mathlib.Omega.{arith}
 use borrow.Author.Tests.{le-ltb}
 use lib.Dec.{ltb}
 use lib.IntN.{ℤ, pos, negsuc, natAbs}
 use lib.ListN.{length, length-append}
 use lib.Signed.{ltZ}
+use Rattle.field.specs.Field.{size, place}
+use Rattle.field.proofs.Accepted.{place-below}
 use Rattle.text.specs.Inner.{Put}
 use Rattle.text.specs.Text.{ascii, decimal, fixedPoint, sign, padded}
 use Rattle.text.proofs.Puts.{put-then, put-length}
 use Rattle.text.proofs.Columns.{padded-length, fixed-length}
 use Rattle.text.proofs.Decimals.{digits-most}
-use Rattle.icgem_write.specs.Inner.{PutLines}
-use Rattle.icgem_write.specs.Written.{entry, coefficient}
+use Rattle.icgem_write.specs.Inner.{PutLines, Has}
+use Rattle.icgem_write.specs.Written.{joined, entry, coefficient}
 
 -- a length of 64 bits in millimetres has 17 digits before the dot at most
 pub metres : (n : ℕ) → n < 2 ^ 64 → length (fixedPoint 3 n) ≤ 21
@@ -80,3 +83,41 @@ order-most n h = omega (arith, digits-most 1 n (ltb n 10) refl (omega arith))
 
 pub coefficient-most : (z : ℤ) → natAbs z ≤ 2 ^ 60 → length (coefficient z) ≤ 22
 coefficient-most z h = rw (signed-coefficient z) (omega (arith, entry-most (ltZ z (pos 0)) (natAbs z) h))
+
+-- ---- one more of a run of lines
+pub no-lines : (f : ℕ → List ℕ) (l : List ℕ) (at : ℕ) → PutLines 0 l at (joined f 0) l at
+unfolding joined
+no-lines f l at = record { put = record { next-is = omega arith; bytes-are = refl }; next-at = omega arith; same-room = refl }
+
+pub more-lines : (f : ℕ → List ℕ) (k : ℕ) {a b : ℕ} {l l′ l″ : List ℕ} {at n n′ : ℕ} → PutLines a l at (joined f k) l′ n → PutLines b l′ n (f k) l″ n′
+    → PutLines (a + b) l at (joined f (k + 1)) l″ n′
+unfolding joined
+more-lines f k {a} {b} {l} {l′} {l″} {at} {n} {n′} p q = rw (add-one k) (lines-then p q)
+
+-- the places of a degree stand one after the other
+pub place-is : (n m : ℕ) → n * (n + 1) / 2 + m ≡ place n m
+unfolding place
+place-is n m = refl
+
+-- the places of the degrees below one
+abbrev pub below : ℕ → ℕ
+below n = place n 0
+
+pub below-none : below 0 ≡ 0
+unfolding place
+below-none = refl
+
+pub below-next : (n : ℕ) → below n + (n + 1) ≡ below (n + 1)
+unfolding place
+below-next n = omega arith
+
+pub below-size : (n : ℕ) → below (n + 1) ≡ size n
+unfolding place size
+below-size n = omega arith
+
+pub below-most : (n k : ℕ) → k ≤ n → below (k + 1) ≤ size n
+unfolding place
+below-most n k h = omega (arith, place-below n k k h (omega arith))
+
+pub has-below : {n : ℕ} (k : ℕ) {l : List ℤ} → k ≤ n → Has n l → Has k l
+has-below {n} k {l} h has = record { long = omega (arith, below-most n k h, below-size k, has .long); range = has .range }
