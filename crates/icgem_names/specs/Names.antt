@@ -22,6 +22,10 @@ modelName = ascii "modelname"
 abbrev pub gravityConstant : List ℕ
 gravityConstant = ascii "earth_gravity_constant"
 
+-- "also seen as"
+abbrev pub plainConstant : List ℕ
+plainConstant = ascii "gravity_constant"
+
 abbrev pub radius : List ℕ
 radius = ascii "radius"
 

@@ -1,0 +1,1 @@
+// What a gravity field file says: definitions alone.
