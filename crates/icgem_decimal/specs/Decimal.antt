@@ -1,9 +1,10 @@
 -- Whole numbers and decimals of a gravity field file (document 02, T-10: "each decimal taken exactly and rounded once to nearest").
 use mathlib.Core.Bool.{Bool, true, false, cond, not, _&&_, _||_}
 use mathlib.Core.List.{List, [], _∷_, _++_}
+use mathlib.Core.Path.{_≡_}
 use Prim.Native.Nat.{ℕ, _+_, _-_, _*_, _^_}
 use lib.Dec.{eqb, leb}
-use lib.IntN.{ℤ}
+use lib.IntN.{ℤ, natAbs}
 use lib.ListN.{length, getD}
 use Rattle.whole.specs.Nearest.{signed, nearest}
 use Rattle.icgem_words.specs.Words.{pieces}
@@ -93,3 +94,20 @@ inUnits places word =
     nearest
     (signed (isMinus word) (valueOf (wholeDigits word ++ fractionDigits word) * 10 ^ (places + exponentUp word)))
     (10 ^ (length (fractionDigits word) + exponentDown word))
+
+-- ---- What the functions answer
+-- a number, told whole where it is below 2^64
+pub record Held (over : Bool) (value n : ℕ) : Type 0 where
+  pub over-is : over ≡ leb (2 ^ 64) n
+  pub value-is : over ≡ false → value ≡ n
+
+-- a word's whole number, where the word is one
+pub record WholeTaken (word : List ℕ) (ok over : Bool) (value : ℕ) : Type 0 where
+  pub ok-is : ok ≡ isWhole word
+  pub number-is : ok ≡ true → Held over value (valueOf word)
+
+-- a word's decimal in units of 10^-places, where the word is one
+pub record Taken (places : ℕ) (word : List ℕ) (ok negative over : Bool) (size : ℕ) : Type 0 where
+  pub ok-is : ok ≡ isDecimal word
+  pub over-is : ok ≡ true → over ≡ leb (2 ^ 64) (natAbs (inUnits places word))
+  pub value-is : ok ≡ true → over ≡ false → inUnits places word ≡ signed negative size
