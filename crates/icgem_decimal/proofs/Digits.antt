@@ -37,6 +37,13 @@ pub digits-end : (l : List ℕ) (i : ℕ) → length l ≤ i → i ≤ length l 
 unfolding allDigits
 digits-end l i h k = let e : i ≡ length l = omega arith in rw (e, drop-length)
 
+pub digits-drop : (l : List ℕ) (i : ℕ) → allDigits l ≡ true → allDigits (drop i l) ≡ true
+unfolding allDigits
+digits-drop [] zero e = e
+digits-drop [] (suc i) e = e
+digits-drop (x ∷ l) zero e = e
+digits-drop (x ∷ l) (suc i) e = digits-drop l i (and-right (isDigit x) (allDigits l) e)
+
 -- digits are a whole number where there is one
 pub whole-digits : (l : List ℕ) → isWhole l ≡ true → allDigits l ≡ true
 unfolding isWhole
@@ -80,6 +87,12 @@ read-more n [] = omega (arith, pow-zero 10)
 read-more n (x ∷ l) =
     rw (pow-suc 10 (length l), read-more (10 * 0 + (x - 48)) l) (read-more (10 * n + (x - 48)) l ∙ step n (x - 48) (10 ^ length l) (valueOf l))
 
+pub value-cons : (x : ℕ) (l : List ℕ) → valueOf (x ∷ l) ≡ (x - 48) * 10 ^ length l + valueOf l
+unfolding readOn
+value-cons x l =
+    let e : 10 * 0 + (x - 48) ≡ x - 48 = omega arith in
+    read-more (10 * 0 + (x - 48)) l ∙ ap (λ (k : ℕ). k * 10 ^ length l + valueOf l) e
+
 -- fewer than ten to the number of digits
 pub value-below : (l : List ℕ) → allDigits l ≡ true → valueOf l < 10 ^ length l
 unfolding allDigits readOn
@@ -88,4 +101,4 @@ value-below (x ∷ l) e =
     let d = both-ends 48 57 x (and-left (isDigit x) (allDigits l) e) in
     let b = value-below l (and-right (isDigit x) (allDigits l) e) in
     let m : x - 48 ≤ 9 = omega arith in
-    omega (arith, pow-suc 10 (length l), read-more (10 * 0 + (x - 48)) l, mul-le-mul-right (10 ^ length l) m)
+    omega (arith, pow-suc 10 (length l), value-cons x l, mul-le-mul-right (10 ^ length l) m)

@@ -1,8 +1,7 @@
 -- What the functions that take a word apart and read its digits say to one another.
 use mathlib.Core.Bool.{Bool, true, false, cond}
-use mathlib.Core.List.{List, []}
-use mathlib.Core.Path.{_≡_}
-use Prim.Native.Nat.{ℕ, suc, _+_, _/_, _≤_, _<_}
+use mathlib.Core.List.{List, [], _++_}
+use Prim.Native.Nat.{ℕ, suc, _+_, _*_, _/_, _^_}
 use lib.Dec.{leb}
 use lib.ListN.{length, getD, drop}
 use Rattle.icgem_words.specs.Words.{pieces}
@@ -12,12 +11,6 @@ use Rattle.icgem_decimal.specs.Decimal.{isLetter, isDot, isMinus, unsign
 -- whatever number the first holds, the second holds its image
 pub record Mapped (f : ℕ → ℕ) (over : Bool) (value : ℕ) (over′ : Bool) (value′ : ℕ) : Type 0 where
   pub each : (n : ℕ) → Held over value n → Held over′ value′ (f n)
-
--- n, or a million where it is more
-pub record Capped (n r : ℕ) : Type 0 where
-  pub most : r ≤ 1000000
-  pub least : r ≤ n
-  pub exact : r < 1000000 → r ≡ n
 
 -- n / d, rounded, a half up
 abbrev pub rounded : ℕ → ℕ → ℕ
@@ -46,3 +39,7 @@ up text = cond (isMinus text) 0 (valueOf (unsigned text))
 
 abbrev pub down : List ℕ → ℕ
 down text = cond (isMinus text) (valueOf (unsigned text)) 0
+
+-- digits before and after the dot, in units of 10^-places
+abbrev pub inPlaces : ℕ → List ℕ → List ℕ → List ℕ → ℕ
+inPlaces places a b exponent = rounded (valueOf (a ++ b) * 10 ^ (places + up exponent)) (10 ^ (length b + down exponent))

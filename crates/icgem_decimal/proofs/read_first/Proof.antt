@@ -2,9 +2,9 @@
 use borrow.Author.Needs.{needs}
 use mathlib.Core.Path.{_≡_, refl}
 use mathlib.Core.List.{_++_}
-use Prim.Native.Nat.{_+_, _≤_, _-_}
+use Prim.Native.Nat.{_≤_, _-_}
 use native.Mathlib.Omega.{arith}
-use lib.ListN.{length, take, length-append}
+use lib.ListN.{take, length-append}
 use Rattle.icgem_decimal.specs.Decimal.{readOn, valueOf, Held}
 use Rattle.icgem_decimal.proofs.Digits.{digit-at, value-next}
 use Rattle.icgem_decimal.proofs.Numbers.{held-below}
