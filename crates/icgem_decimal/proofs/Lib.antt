@@ -6,3 +6,4 @@ pub mod Pieces
 pub mod Rounded
 pub mod Words
 pub mod Units
+pub mod Cases
