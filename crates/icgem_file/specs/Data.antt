@@ -4,11 +4,12 @@ use mathlib.Core.List.{List, [], _∷_}
 use Prim.Native.Nat.{ℕ}
 use lib.Dec.{eqb, leb}
 use lib.IntN.{ℤ}
-use lib.ListN.{length, set}
+use lib.ListN.{length, getD, drop, set}
 use Rattle.field.specs.Field.{place}
 use Rattle.limits.specs.Limits.{isEntry}
 use Rattle.icgem_decimal.specs.Decimal.{isWhole, isDecimal, valueOf, inUnits}
 use Rattle.icgem_names.specs.Names as names
+use Rattle.icgem_words.specs.Words.{lines, words}
 use Rattle.icgem_file.specs.Header.{Line, wordAt, keyed}
 
 abbrev pub degreeIn : Line → ℕ
@@ -61,3 +62,7 @@ allInRange (line ∷ others) = (isEntry (cIn line) && isEntry (sIn line)) && all
 unfoldable pub filled : (Line → ℤ) → List Line → List ℤ → List ℤ
 filled count [] l = l
 filled count (line ∷ others) l = filled count others (set l (place (degreeIn line) (orderIn line)) (count line))
+
+-- the words of the line that starts at a place of a text
+abbrev pub lineAt : List ℕ → ℕ → Line
+lineAt text at = words (getD (lines (drop at text)) 0 [])
