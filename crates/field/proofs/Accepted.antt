@@ -37,6 +37,11 @@ pub place-below : (N n m : ℕ) → n ≤ N → m ≤ n → place n m < size N
 unfolding place size
 place-below N n m h k = omega (arith, mul-le-mul h h)
 
+-- 1,891 entries at degree 60
+pub size-most : (n : ℕ) → n ≤ 60 → size n ≤ 1891
+unfolding size
+size-most n h = omega (arith, mul-le-mul h h)
+
 -- degree two stands in every field
 pub degree-two : (n : ℕ) (l : List ℤ) → 4 ≤ n → length l ≡ size n → 5 < length l
 unfolding place

@@ -63,7 +63,7 @@ fn all_in_range(list: &[i64]) -> bool
 }
 
 // The entries of a list of degree n.
-fn size_of(n: u32) -> usize
+pub fn size_of(n: u32) -> usize
     requires { ⌜ n ≤ 60 ⌝ }
     ensures { λ r. ⌜ r ≡ size n ⌝ }
 {

@@ -7,9 +7,18 @@ ghost use Rattle.field.specs.Field.{size};
 ghost use Rattle.icgem_names.specs.Names.{systemName, radius as radiusName};
 ghost use Rattle.text.specs.Inner.{Put};
 ghost use Rattle.text.specs.Text.{decimal, fixedPoint, padded};
+ghost use Rattle.icgem_write.specs.Outcome.{Writes, tells};
 ghost use Rattle.icgem_write.specs.Inner.{PutLines, Has};
 ghost use Rattle.icgem_write.specs.Written.{joined, entry, titleLines, measureLines, mannerLines, closingLine, header, coefficient, placeLine, degreeLines, fileText};
 use choices::PermanentSystem;
+use refusals::Answer;
+use refusals::Refusal;
+
+// How many bytes were written.
+pub enum Wrote {
+    Bytes(usize),
+    Refused(Refusal),
+}
 
 // The characters of a line before its line feed.
 const COLUMNS: usize = 53;
@@ -183,4 +192,39 @@ pub fn put_field(
 {
     let at = put_header(out, n, constant, radius, system);
     put_degrees(out, at, n, c, s)
+}
+
+// How many bytes the text of a field of degree n has.
+fn bytes_of(n: u32) -> usize
+    requires { ⌜ n ≤ 60 ⌝ }
+    ensures { λ r. ⌜ r ≡ 54 * (9 + size n) ⌝ }
+{
+    54 * (9 + field::size_of(n))
+}
+
+// Given: a field, its gravity constant in m3/s2, its radius in millimetres, its permanent system, an output.
+// Done: the text stands at the output's start, and every byte after it stays.
+// Answered: how many bytes were written.
+// Refused: 1, 2, then 21, an output of fewer bytes than the text has.
+pub fn write_field(
+    n: u32,
+    c: &[i64],
+    s: &[i64],
+    constant: u64,
+    radius: u64,
+    system: PermanentSystem,
+    out: &mut [u8],
+) -> Wrote
+    ensures { λ r. ⌜ Writes n (now (c .entry)) (now (s .entry)) constant radius system (now (out .entry)) (tells r) (now (out .exit)) ⌝ }
+{
+    match field::tested(n, c, s) {
+        Answer::Accepted => {
+            if out.len() < bytes_of(n) {
+                Wrote::Refused(Refusal::ShortOutput)
+            } else {
+                Wrote::Bytes(put_field(out, n, c, s, constant, radius, system))
+            }
+        }
+        Answer::Refused(why) => Wrote::Refused(why),
+    }
 }

@@ -5,7 +5,7 @@ use Prim.Native.Nat.{ℕ, _-_}
 use native.Mathlib.Omega.{arith}
 use lib.ListN.{getD}
 use Rattle.refusals.specs.declared.Refusal.{Refusal}
-use Rattle.refusals.specs.declared.Refusal.the-variants.{FieldShape, FieldRange, NotFinite, BodyRange, NotUnit, StepOneRange, SheetLength, SheetValue, SheetDegree, NotDoodson, NoSuchLine, RecordCount, RecordValue, SelectionValue, PoleOffset, TwinLines}
+use Rattle.refusals.specs.declared.Refusal.the-variants.{FieldShape, FieldRange, NotFinite, BodyRange, NotUnit, StepOneRange, SheetLength, SheetValue, SheetDegree, NotDoodson, NoSuchLine, RecordCount, RecordValue, SelectionValue, PoleOffset, TwinLines, FileForm, TwinPlaces, FileRange, NoSuchSystem, ShortOutput}
 use Rattle.refusals.specs.declared.Answer.{Answer}
 use Rattle.refusals.specs.declared.Answer.the-variants.{Accepted, Refused}
 use Rattle.refusals.specs.Numbers.{refusalNumber, answerNumber}
@@ -27,10 +27,15 @@ refusal-not-zero RecordValue e = omega arith
 refusal-not-zero SelectionValue e = omega arith
 refusal-not-zero PoleOffset e = omega arith
 refusal-not-zero TwinLines e = omega arith
+refusal-not-zero FileForm e = omega arith
+refusal-not-zero TwinPlaces e = omega arith
+refusal-not-zero FileRange e = omega arith
+refusal-not-zero NoSuchSystem e = omega arith
+refusal-not-zero ShortOutput e = omega arith
 
 -- the refusal of a number
 pub refusal-of : ℕ → Refusal
-refusal-of number = getD (FieldShape ∷ FieldRange ∷ NotFinite ∷ BodyRange ∷ NotUnit ∷ StepOneRange ∷ SheetLength ∷ SheetValue ∷ SheetDegree ∷ NotDoodson ∷ NoSuchLine ∷ RecordCount ∷ RecordValue ∷ SelectionValue ∷ PoleOffset ∷ TwinLines ∷ []) (number - 1) FieldShape
+refusal-of number = getD (FieldShape ∷ FieldRange ∷ NotFinite ∷ BodyRange ∷ NotUnit ∷ StepOneRange ∷ SheetLength ∷ SheetValue ∷ SheetDegree ∷ NotDoodson ∷ NoSuchLine ∷ RecordCount ∷ RecordValue ∷ SelectionValue ∷ PoleOffset ∷ TwinLines ∷ FileForm ∷ TwinPlaces ∷ FileRange ∷ NoSuchSystem ∷ ShortOutput ∷ []) (number - 1) FieldShape
 
 pub refusal-again : (r : Refusal) → refusal-of (refusalNumber r) ≡ r
 unfolding refusal-of
@@ -50,6 +55,11 @@ refusal-again RecordValue = refl
 refusal-again SelectionValue = refl
 refusal-again PoleOffset = refl
 refusal-again TwinLines = refl
+refusal-again FileForm = refl
+refusal-again TwinPlaces = refl
+refusal-again FileRange = refl
+refusal-again NoSuchSystem = refl
+refusal-again ShortOutput = refl
 
 pub same-refusal : (r q : Refusal) → refusalNumber r ≡ refusalNumber q → r ≡ q
 same-refusal r q e = sym (refusal-again r) ∙ ap refusal-of e ∙ refusal-again q

@@ -21,6 +21,11 @@ pub enum Refusal {
     SelectionValue,
     PoleOffset,
     TwinLines,
+    FileForm,
+    TwinPlaces,
+    FileRange,
+    NoSuchSystem,
+    ShortOutput,
 }
 
 // The answer of a call whose results stand in lent memory.
@@ -50,6 +55,11 @@ pub fn refusal_number(why: Refusal) -> u32
         Refusal::SelectionValue => 14,
         Refusal::PoleOffset => 15,
         Refusal::TwinLines => 16,
+        Refusal::FileForm => 17,
+        Refusal::TwinPlaces => 18,
+        Refusal::FileRange => 19,
+        Refusal::NoSuchSystem => 20,
+        Refusal::ShortOutput => 21,
     }
 }
 
