@@ -153,8 +153,8 @@ def in_range(lines):
 # --- The calls ---
 
 def read_file(data, length_c, length_s):
-    """'Answers of reading', for lent lists of these lengths: max_degree, gravity constant, radius in millimetres, the system's number, C and S; or the
-    refusal, of 17, 18, 19, 20 and 1 the first in this order that the whole file gives."""
+    """'Answers of reading', for lent lists of these lengths: max_degree, gravity constant, radius in millimetres, the system's number, C and S; or
+    of the refusals 17, 18, 19, 20 and 1 the first in this order that the whole file gives."""
     try:
         top, constant, radius, system, lines = parsed(data)
     except Malformed:
