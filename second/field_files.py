@@ -10,6 +10,8 @@ from chance import WORD
 from tides import FIELD_BOUND, index, size
 
 Case = namedtuple('Case', 'data length_c length_s due')
+CONSTANT = 'earth_gravity_constant', 'gravity_constant'
+KNOWN = 'product_type', 'modelname', *CONSTANT, 'radius', 'max_degree', 'errors', 'norm', 'tide_system'
 MOST_BYTES = 131_072
 SYSTEMS = 'tide_free', 'zero_tide', 'mean_tide'
 ORDER = 17, 18, 19, 20, 1
@@ -17,7 +19,7 @@ ORDER = 17, 18, 19, 20, 1
 
 # --- Decimals ---
 
-# Of size digits * 10^power, with the whole number nearest to it at a scale of 10^places, its sign on it.
+# The value is sign * digits * 10^power; count is the whole number nearest it in the unit that it is read in, None where it is beyond every range.
 Decimal = namedtuple('Decimal', 'sign digits power count')
 
 
@@ -40,18 +42,18 @@ def cut_at(sign, count, tail, places=15):
 
 LOW_TAILS = '', '0', '4', '49', '4' + '9' * 39, '0' * 39 + '1'           # to the count itself
 HIGH_TAILS = '5', '5' + '0' * 39, '5' + '0' * 39 + '1', '51', '9' * 40   # a half or more: to the next
-FAR = 10**12 - 1                                                         # an exponent that no power is formed of
+FAR = 10**12 - 1, (1 << 32) + 15, (1 << 64) - 15, 1 << 64, 10**40        # exponents that no power is formed of
 
 
 def coefficient(chance):
     """A decimal whose count is in the range: of every size, zeros, halves, those beside them, the range's ends, and exponents beyond all use."""
-    sign, tail = chance.one(1, -1), chance.one(*LOW_TAILS, *HIGH_TAILS)
+    sign, tail, far = chance.one(1, -1), chance.one(*LOW_TAILS, *HIGH_TAILS), chance.one(*FAR)
     count = chance.one(0, 1, 2, chance.below(10**chance.between(1, 18)))
     kind = chance.below(12)
     if kind == 0:
-        return Decimal(sign, '0' * chance.between(1, 20), chance.one(0, 9, -9, FAR, -FAR), 0)
+        return Decimal(sign, '0' * chance.between(1, 20), chance.one(0, 9, -9, far, -far), 0)
     if kind == 1:
-        return Decimal(sign, chance.one('1', '9', '9' * 40), -FAR, 0)
+        return Decimal(sign, chance.one('1', '9', '9' * 40), -far, 0)
     if kind == 2:
         return cut_at(sign, FIELD_BOUND, chance.one(*LOW_TAILS))
     if kind == 3:
@@ -63,23 +65,24 @@ def coefficient(chance):
 
 def beyond(chance):
     """A decimal whose count is out of the range."""
-    sign = chance.one(1, -1)
+    sign, far = chance.one(1, -1), chance.one(*FAR)
     return chance.one(
         cut_at(sign, FIELD_BOUND, chance.one(*HIGH_TAILS)), cut_at(sign, FIELD_BOUND + 1, chance.one(*LOW_TAILS)), decimal(sign, '1153', 0),
         *(cut_at(sign, 1 << bits, '') for bits in (61, 63, 64)), cut_at(sign, (1 << 64) + 1, ''), decimal(sign, '1', 40),
-        Decimal(sign, '1', FAR, None), Decimal(sign, '0' * 30 + '9' * 40, FAR, None))
+        Decimal(sign, '1', far, None), Decimal(sign, '0' * 30 + '9' * 40, far, None))
 
 
 def unsigned(chance, places):
     """A decimal above -1/2 and below 2^64 - 1/2 at its scale."""
     sign, count = chance.one((1, WORD), (1, chance.below(1 << chance.between(1, 64))), (1, 0), (-1, 0))
-    return cut_at(sign, count, chance.one(*LOW_TAILS), places)
+    few = decimal(1, str(chance.below(18)), chance.between(0, 18) - places, places)
+    return chance.one(few, cut_at(sign, count, chance.one(*LOW_TAILS), places), cut_at(sign, count, chance.one(*LOW_TAILS), places))
 
 
 def no_unsigned(chance, places):
     sign, count, tails = chance.one((1, WORD, HIGH_TAILS), (1, WORD + 1, LOW_TAILS), (-1, 0, HIGH_TAILS), (-1, 1, LOW_TAILS))
     return chance.one(cut_at(sign, count, chance.one(*tails), places), cut_at(1, chance.between(WORD + 1, 1 << 66), '', places),
-                      Decimal(1, '1', FAR, None), Decimal(-1, '3', FAR, None))
+                      *(Decimal(sign, '3', chance.one(*FAR), None) for sign in (1, -1)))
 
 
 def signed(chance, decimal):
@@ -163,8 +166,8 @@ def header(model, constant, radius, errors, *others):
             ['errors', errors], ['norm', 'fully_normalized'], ['tide_system', ''], *map(str.split, others)]
 
 
-# The lines before begin_of_head, the header's words, how a keyword is filled up, the radius in millimetres; what draws a coefficient and writes it, what
-# draws the words behind S, and how a line is set down.
+# The lines before begin_of_head, the header's words, the width of a keyword, the radius in millimetres; then what draws a coefficient, what writes
+# it, what draws the words behind S, and what sets a line down.
 Style = namedtuple('Style', 'comment header keyword radius number form errors layout')
 KEY = 'key L M C S sigma C sigma S'
 EGM96 = Style(
@@ -183,9 +186,13 @@ EIGEN_6C4 = Style(
     significant(12), lead_zero('e'), sigmas(lead_zero('e'), 5), in_columns(5, 4, 19, 19, 11, 11))
 BARE = EIGEN_6C4._replace(errors=lambda chance: [], layout=in_columns(2, 2, 19, 19))         # without errors 60 degrees fit
 FREE = Style(
-    [], header('surfgimlet', '398600441500000', '6378136.300', 'no', 'max_degrees 9', 'radiu x', 'Norm x', 'gfc 2 0 1 0'), 1, 6378136300,
+    [], header('surfgimlet', '398600441500000', '6378136.300', 'no'), 1, 6378136300,
     coefficient, spelled, any_words, with_any_blanks)
 PUBLISHED = EGM96, EGM2008, GGM05S, EIGEN_6C4
+NO_ENTRIES = (                                                           # header lines that are passed over
+    'max_degrees 9', 'max_degre 9', 'Max_degree 9', 'radiu x', 'Radius 1', 'radius: 1', 'RADIUS', 'Norm x', 'norms', 'gfc 2 0 1 0', 'key',
+    'key L M C S', 'generating_institute x', 'earth_gravity', 'gravity_constants 1', 'x begin_of_head', 'begin_of_header', 'Begin_of_head',
+    'x end_of_head', 'end_of_heads', 'tide_systems', 'product_type_ x', 'modelname2', 'error', '#', '\xff', '\x00', '\x0cmax_degree 9')
 
 
 # --- Files before they are written ---
@@ -212,19 +219,24 @@ class Sketch:
         self.set('max_degree', str(top))
         self.set('tide_system', SYSTEMS[self.system])
         if style is FREE:
-            self.draw_constants(chance)
+            self.vary_header(chance)
 
-    def draw_constants(self, chance):
+    def vary_header(self, chance):
+        """Any gravity constant and radius by either keyword, words after the values, and lines that are passed over."""
         for keyword, places in (('constant', 0), ('radius', 3)):
             drawn = unsigned(chance, places)
             self.set(keyword, spelled(chance, drawn))
             setattr(self, keyword, drawn.count)
         if chance.one_in(2):
             self.entry('constant')[0] = 'gravity_constant'
+        for words in self.header:
+            words += chance.one([], [], ['x'], ['4', '0', words[0]])
+        for _ in range(chance.below(6)):
+            inserted(chance, self.header, chance.one(*NO_ENTRIES).split(' '))
 
     def entry(self, keyword):
-        """The words of an entry; the last part of its keyword is enough."""
-        return next(words for words in self.header if words[0].endswith(keyword))
+        """The words of an entry, the gravity constant's by either keyword."""
+        return next(words for words in self.header if words[0] in (CONSTANT if keyword == 'constant' else [keyword]))
 
     def set(self, keyword, value):
         self.entry(keyword)[1:2] = [value]
@@ -277,7 +289,6 @@ def good_sketch(chance):
 
 # --- Faults ---
 
-KNOWN = ('product_type', 'modelname', 'earth_gravity_constant', 'gravity_constant', 'radius', 'max_degree', 'errors', 'norm', 'tide_system')
 REQUIRED = 'product_type', 'constant', 'radius', 'max_degree'
 HIGH_DEGREES = 61, 64, 360, 2190, 1 << 16, (1 << 32) + 4, (1 << 64) + 4, (1 << 64) + 60, 10**40
 
@@ -313,8 +324,8 @@ def entry_missing(chance, sketch):
 def entry_repeated(chance, sketch):
     """With its value or another; the gravity constant by either keyword."""
     keyword, *values = chance.one(*sketch.known())
-    if keyword.endswith('gravity_constant'):
-        keyword = chance.one('gravity_constant', 'earth_gravity_constant')
+    if keyword in CONSTANT:
+        keyword = chance.one(*CONSTANT)
     inserted(chance, sketch.header, [keyword, *chance.one(values, ['7'], ['gravity_field'])])
 
 
@@ -323,7 +334,7 @@ def value_missing(chance, sketch):
 
 
 def other_product(chance, sketch):
-    sketch.set('product_type', chance.one('gravity_field_', 'gravity_fiel', 'Gravity_field', 'topography', 'geoid', 'fully_normalized', 'gravity field'))
+    sketch.set('product_type', chance.one('gravity_field_', 'gravity_fiel', 'Gravity_field', 'topography', 'fully_normalized', 'gravity field'))
 
 
 def other_norm(chance, sketch):
@@ -349,8 +360,9 @@ def radius_beyond(chance, sketch):
 def other_line(chance, sketch):
     """A line of another kind: time-variable, a comment, one of the header."""
     line = any_line(chance, sketch)
-    other = chance.one(['#', 'x'], ['end_of_head'], ['begin_of_head'], ['max_degree', '4'], ['\x0c'], ['\x00'], ['\xa0'])
-    inserted(chance, sketch.lines, chance.one(other, [chance.one('gfct', 'trnd', 'dot', 'acos', 'asin', 'GFC', 'gfc,', '\xa0gfc', 'gf'), *line[1:]]))
+    whole = chance.one(['#', 'x'], ['end_of_head'], ['begin_of_head'], ['max_degree', '4'], ['\x0c'], ['\x00'], ['\xa0'])
+    first = chance.one('gfct', 'trnd', 'dot', 'acos', 'asin', 'GFC', 'gfc,', '#gfc', '\xa0gfc', 'gf')
+    inserted(chance, sketch.lines, chance.one(whole, [first, *line[1:]]))
 
 
 def other_count(chance, sketch):
@@ -424,7 +436,7 @@ def no_system(chance, sketch):
 
 
 def other_system(chance, sketch):
-    sketch.set('tide_system', chance.one('unknown', 'tide_fre', 'tide_free_', 'Tide_free', 'tide-free', 'zero', 'mean_tides', '0', 'zero_tide,', 'free_tide'))
+    sketch.set('tide_system', chance.one('unknown', 'tide_fre', 'tide_free_', 'Tide_free', 'tide-free', 'zero', 'mean_tides', '0', 'zero_tide,'))
 
 
 # By their numbers, in the order in which they are planted: one of 17 last, since a second one could undo it.
@@ -440,7 +452,7 @@ def wrong_lengths(chance, fit):
     """Two lengths, not both of them the one that fits."""
     wrong = chance.one(0, fit - 1, fit + 1, 1891, chance.below(2000))
     wrong += wrong == fit
-    return chance.one((wrong, fit), (fit, wrong), (wrong, wrong))
+    return chance.one((wrong, fit), (fit, wrong), (wrong, wrong), (fit - 1, fit + 1))
 
 
 def with_faults(chance, numbers, seventeen=None):
@@ -480,7 +492,7 @@ def keywords(chance):
         missing = {'tide_system': 20, 'modelname': None, 'errors': None, 'norm': None}.get(keyword, 17)
         for words in ([], [keyword + 's', value], [keyword[:-1], value], [keyword.upper(), value], ['x', keyword, value], [f'"{keyword}"', value]):
             yield with_words(chance, i, [words], missing)
-        same = Sketch(chance, FREE, 4, []).header[i][1]
+        same = Sketch(chance, BARE, 4, []).header[i][1]
         for other in ([keyword, value], [keyword, same], [keyword]):
             yield with_words(chance, i, [None, other], 17)
         yield with_words(chance, i, [[keyword]], 17)
@@ -495,6 +507,24 @@ def with_words(chance, i, lines, due):
     return fitting(chance, sketch, due)
 
 
+def forms(chance):
+    """Every word that is no whole number or no decimal, wherever one stands."""
+    for word in NO_WHOLE:
+        yield with_words(chance, 4, [['max_degree', word]], 17)
+        yield from (with_word(chance, at, word) for at in (1, 2))
+    for word in NO_DECIMAL:
+        yield with_words(chance, 2, [['earth_gravity_constant', word]], 17)
+        yield with_words(chance, 3, [['radius', word]], 17)
+        yield from (with_word(chance, at, word) for at in (3, 4))
+
+
+def with_word(chance, at, word):
+    """A file one of whose data lines has a word that is refused with 17."""
+    sketch = free_sketch(chance)
+    any_line(chance, sketch)[at] = word
+    return fitting(chance, sketch, 17)
+
+
 def degrees(chance):
     """Every degree from 0 to 66 and far ones, some lines at the degree itself."""
     for top in (*range(67), *HIGH_DEGREES, *(1 << bits for bits in (8, 31, 32, 63, 64))):
@@ -503,10 +533,10 @@ def degrees(chance):
 
 
 def filled(chance, data, goal):
-    """The bytes of a good file made so many: by blanks and line ends behind or before, by a line that is passed over, or on the line of end_of_head."""
+    """A good file's bytes made so many: by blanks and line ends before or behind, a line that is passed over, or words behind end_of_head."""
     more = goal - len(data)
     blanks = lambda count: bytes(chance.one(*b'  \t\n\r') for _ in range(count))
-    at = data.index(b'end_of_head') + 11
+    at = data.rindex(b'end_of_head') + 11
     return chance.one(
         data + b' ' * more, data + b'\n' * more, data + blanks(99) + b'\t' * (more - 99), b'\r' * more + data, blanks(99) + b' ' * (more - 99) + data,
         b'#' * (more - 1) + b'\n' + data, data[:at] + b' ' + b'=' * (more - 1) + data[at:])
@@ -549,7 +579,7 @@ def styles(chance):
 
 
 def edge_files(chance):
-    for part in (styles, constants, keywords, degrees, lengths, long_numbers):
+    for part in (styles, constants, keywords, forms, degrees, lengths, long_numbers):
         yield from part(chance)
 
 
