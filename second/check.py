@@ -1,4 +1,4 @@
-"""Runs the cases of the description (01, and T-01, T-02 and T-04 to T-09 of 02) and its bounds on the second program; prints one line."""
+"""Runs the cases of the description (01, and T-01, T-02 and T-04 to T-10 of 02) and its bounds on the second program; prints one line."""
 
 import struct
 from collections import Counter, defaultdict
@@ -10,6 +10,7 @@ from math import atan2, ceil, cos, factorial, floor, hypot, inf, ldexp, nan, nex
 from operator import add, mul, neg, or_, xor
 from unittest.mock import patch
 
+import check_files
 import given
 import telling
 import tides as t
@@ -1905,6 +1906,8 @@ def main():
     hour_slips()
     rounding_slips()
     twin_slips()
+    check_files.check()
+    counts.update(check_files.counts)
     seen = ', '.join(f'{kind} {count}' for kind, count in counts.items())
     errors = ', '.join(f'{kind} {float(error):.6f}' for kind, error in worst.items())
     print(f'ok: {seen}; largest errors: {errors}')
