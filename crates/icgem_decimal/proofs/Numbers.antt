@@ -1,18 +1,18 @@
 -- Numbers held below 2^64, or known to be 2^64 or more.
-use mathlib.Core.Path.{_≡_, sym, subst, _∙_}
+use mathlib.Core.Path.{_≡_, refl, sym, subst, _∙_}
 use mathlib.Core.Bool.{Bool, true, false}
-use Prim.Native.Nat.{ℕ, zero, suc, _+_, _*_, _^_, _≤_, _<_, min}
+use Prim.Native.Nat.{ℕ, zero, suc, _+_, _*_, _%_, _^_, _≤_, _<_, min}
 use native.Mathlib.Nat.{pow-suc, pow-le-pow-right, mul-le-mul-right}
 use native.Mathlib.Numerals.{add-one}
 use native.Mathlib.Omega.{arith}
-use borrow.Author.Tests.{leb-true, leb-false, le-leb, lt-leb}
-use lib.Dec.{T, leb}
+use borrow.Author.Tests.{leb-true, leb-false, le-leb, lt-leb, eq-eqb, ne-eqb}
+use lib.Dec.{T, leb, eqb}
 use Rattle.icgem_decimal.specs.Decimal.{Held}
 use Rattle.icgem_decimal.specs.Inner.{Mapped}
 use Rattle.icgem_decimal.proofs.Tests.{either}
 
-pub held-over : (v n : ℕ) → 2 ^ 64 ≤ n → Held true v n
-held-over v n h = record { over-is = sym (le-leb (2 ^ 64) n h); value-is = λ e. absurd (subst T e tt) }
+pub held-over : {o : Bool} {v n : ℕ} → o ≡ true → 2 ^ 64 ≤ n → Held o v n
+held-over {o} {v} {n} e h = record { over-is = e ∙ sym (le-leb (2 ^ 64) n h); value-is = λ f. absurd (subst T (sym e ∙ f) tt) }
 
 pub held-below : {v n : ℕ} → v ≡ n → n < 2 ^ 64 → Held false v n
 held-below {v} {n} e h = record { over-is = sym (lt-leb (2 ^ 64) n h); value-is = λ _. e }
@@ -27,9 +27,16 @@ module _ {o : Bool} {v n : ℕ} (h : Held o v n) where
 
 -- two numbers of 2^64 or more are held alike
 held-large : {o : Bool} {v m n : ℕ} → Held o v m → 2 ^ 64 ≤ m → 2 ^ 64 ≤ n → Held o v n
-held-large {o} {v} {m} {n} h M N =
-    let e : o ≡ true = h .over-is ∙ le-leb (2 ^ 64) m M in
-    record { over-is = e ∙ sym (le-leb (2 ^ 64) n N); value-is = λ f. absurd (subst T (sym e ∙ f) tt) }
+held-large {o} {v} {m} {n} h M N = held-over (h .over-is ∙ le-leb (2 ^ 64) m M) N
+
+-- the next number, of which the machine keeps what is below 2^64
+pub held-next : (n : ℕ) → n < 2 ^ 64 → Held (eqb ((n + 1) % 2 ^ 64) 0) ((n + 1) % 2 ^ 64) (n + 1)
+held-next n h =
+    either (leb (2 ^ 64) (n + 1))
+    (λ t. let l = leb-true (2 ^ 64) (n + 1) t in held-over (eq-eqb ((n + 1) % 2 ^ 64) 0 (omega arith)) l)
+    (λ t. let l = leb-false (2 ^ 64) (n + 1) t in
+    let e : (n + 1) % 2 ^ 64 ≡ n + 1 = omega arith in
+    rw (e, ne-eqb (n + 1) 0 (omega arith)) (held-below refl l))
 
 -- ---- powers of ten
 large-power : (n k : ℕ) → 1 ≤ n → 20 ≤ k → 2 ^ 64 ≤ n * 10 ^ k

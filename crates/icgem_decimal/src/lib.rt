@@ -32,10 +32,7 @@ fn next(s: Sum, digit: u64) -> Sum
     ensures { λ r. ⌜ Mapped (λ n. 10 * n + digit) (s .over) (s .value) (r .over) (r .value) ⌝ }
 {
     if s.over {
-        return Sum {
-            over: true,
-            value: 0,
-        };
+        return s;
     }
     let value = s.value;
     if (18446744073709551615 - digit) / 10 < value {
@@ -160,22 +157,12 @@ fn one_more(s: Sum) -> Sum
     ensures { λ r. ⌜ Mapped (λ n. n + 1) (s .over) (s .value) (r .over) (r .value) ⌝ }
 {
     if s.over {
-        return Sum {
-            over: true,
-            value: 0,
-        };
+        return s;
     }
-    let value = s.value;
-    if value == 18446744073709551615 {
-        Sum {
-            over: true,
-            value: 0,
-        }
-    } else {
-        Sum {
-            over: false,
-            value: value + 1,
-        }
+    let value = std::num::wrapping_add_u64(s.value, 1);
+    Sum {
+        over: value == 0,
+        value,
     }
 }
 
