@@ -1,5 +1,5 @@
 -- Digits and the numbers that they write.
-use mathlib.Core.Path.{_≡_, refl, sym, ap, subst, _∙_}
+use mathlib.Core.Path.{_≡_, refl, sym, ap, ap₂, subst, _∙_}
 use mathlib.Core.Bool.{Bool, true, false, not, _&&_}
 use mathlib.Core.List.{List, [], _∷_, _++_}
 use Prim.Native.Nat.{ℕ, zero, suc, _+_, _-_, _*_, _^_, _≤_, _<_}
@@ -9,7 +9,7 @@ use native.Mathlib.Omega.{arith}
 use borrow.Author.Tests.{eqb-true}
 use lib.Dec.{T, eqb}
 use lib.ListN.{length, getD, take, drop}
-use lib.Seq.{take-suc, drop-cons, drop-length, getD-append-add}
+use lib.Seq.{take-suc, drop-cons, drop-length, getD-append-add, split-at}
 use Rattle.whole.proofs.Tests.{and-left, and-right, both-ends}
 use Rattle.icgem_decimal.specs.Decimal.{isDigit, allDigits, isEmpty, isWhole, readOn, valueOf}
 
@@ -92,6 +92,14 @@ unfolding readOn
 value-cons x l =
     let e : 10 * 0 + (x - 48) ≡ x - 48 = omega arith in
     read-more (10 * 0 + (x - 48)) l ∙ ap (λ (k : ℕ). k * 10 ^ length l + valueOf l) e
+
+-- by the digits before a place, the one there and the rest
+pub value-split : (l : List ℕ) (p : ℕ) → p < length l
+    → valueOf l ≡ valueOf (take p l) * (10 ^ length (drop (suc p) l) * 10) + ((getD l p 0 - 48) * 10 ^ length (drop (suc p) l) + valueOf (drop (suc p) l))
+value-split l p h =
+    let rest = drop (suc p) l in
+    ap valueOf (split-at l p 0 h) ∙ read-append 0 (take p l) (getD l p 0 ∷ rest) ∙ read-more (valueOf (take p l)) (getD l p 0 ∷ rest)
+    ∙ ap₂ (λ (t v : ℕ). valueOf (take p l) * t + v) (pow-suc 10 (length rest)) (value-cons (getD l p 0) rest)
 
 -- fewer than ten to the number of digits
 pub value-below : (l : List ℕ) → allDigits l ≡ true → valueOf l < 10 ^ length l

@@ -7,3 +7,4 @@ pub mod Rounded
 pub mod Words
 pub mod Units
 pub mod Cases
+pub mod Order

@@ -1,7 +1,7 @@
 -- Digits times a power of ten over another, rounded: exact, cut, or nothing.
 use mathlib.Core.Path.{_≡_, refl, sym, ap, ap₂, _∙_}
 use mathlib.Core.Bool.{Bool, true, false, cond}
-use mathlib.Core.List.{List, _∷_}
+use mathlib.Core.List.{List}
 use Prim.Native.Nat.{ℕ, suc, _+_, _-_, _*_, _/_, _^_, _≤_, _<_, min}
 use native.Mathlib.Nat.{pow-suc, one-le-pow, pow-le-pow-right, mul-le-mul-right, mul-add-div-right, div-eq-of-lt, div-eq-of-lt-le, mul-assoc}
 use native.Mathlib.Omega.{arith}
@@ -10,12 +10,11 @@ use lib.Dec.{leb}
 use lib.IntN.{natAbs}
 use lib.ListN.{length, getD, take, drop, length-drop}
 use lib.Pow.{pow-add}
-use lib.Seq.{split-at}
 use Rattle.whole.proofs.Signed.{abs-signed, nearest-signed, nearest-same}
 use Rattle.whole.proofs.Tests.{both-ends}
-use Rattle.icgem_decimal.specs.Decimal.{allDigits, readOn, valueOf, Held}
+use Rattle.icgem_decimal.specs.Decimal.{allDigits, valueOf, Held}
 use Rattle.icgem_decimal.specs.Inner.{rounded, half}
-use Rattle.icgem_decimal.proofs.Digits.{read-append, read-more, value-cons, value-below, digit-at, digits-drop}
+use Rattle.icgem_decimal.proofs.Digits.{value-split, value-below, digit-at, digits-drop}
 use Rattle.icgem_decimal.proofs.Numbers.{held-far}
 use Rattle.icgem_decimal.proofs.Tests.{either}
 
@@ -60,23 +59,13 @@ by-digit : (a x b t : ℕ) → x ≤ 57 → b < t → (r : Bool) → leb 53 x �
 by-digit a x b t d l true e = cut-up a (x - 48) b t (omega arith) l (omega (arith, leb-true 53 x e))
 by-digit a x b t d l false e = cut-down a (x - 48) b t (omega arith) l (omega (arith, leb-false 53 x e))
 
-module _ (l : List ℕ) (p : ℕ) (D : allDigits l ≡ true) (h : p < length l) where
-  abbrev rest : List ℕ
-  rest = drop (suc p) l
-
-  -- the number of all the digits, by those before the cut, the one after it and the rest
-  split-value : valueOf l ≡ valueOf (take p l) * (10 ^ length rest * 10) + ((getD l p 0 - 48) * 10 ^ length rest + valueOf rest)
-  unfolding readOn
-  split-value =
-      ap valueOf (split-at l p 0 h) ∙ read-append 0 (take p l) (getD l p 0 ∷ rest) ∙ read-more (valueOf (take p l)) (getD l p 0 ∷ rest)
-      ∙ ap₂ (λ (t v : ℕ). valueOf (take p l) * t + v) (pow-suc 10 (length rest)) (value-cons (getD l p 0) rest)
-
-  pub rounded-cut : rounded (valueOf l) (10 ^ (length l - p)) ≡ valueOf (take p l) + half (getD l p 0)
-  rounded-cut =
-      let d = both-ends 48 57 (getD l p 0) (digit-at l p D h) in
-      let e : length l - p ≡ suc (length rest) = omega (arith, length-drop (suc p) l) in
-      ap₂ rounded split-value (ap (λ (k : ℕ). 10 ^ k) e ∙ pow-suc 10 (length rest))
-      ∙ by-digit (valueOf (take p l)) (getD l p 0) (valueOf rest) (10 ^ length rest) (omega arith) (value-below rest (digits-drop l (suc p) D)) (leb 53 (getD l p 0)) refl
+pub rounded-cut : (l : List ℕ) (p : ℕ) → allDigits l ≡ true → p < length l → rounded (valueOf l) (10 ^ (length l - p)) ≡ valueOf (take p l) + half (getD l p 0)
+rounded-cut l p D h =
+    let rest = drop (suc p) l in
+    let d = both-ends 48 57 (getD l p 0) (digit-at l p D h) in
+    let e : length l - p ≡ suc (length rest) = omega (arith, length-drop (suc p) l) in
+    ap₂ rounded (value-split l p h) (ap (λ (k : ℕ). 10 ^ k) e ∙ pow-suc 10 (length rest))
+    ∙ by-digit (valueOf (take p l)) (getD l p 0) (valueOf rest) (10 ^ length rest) (omega arith) (value-below rest (digits-drop l (suc p) D)) (leb 53 (getD l p 0)) refl
 
 -- more places than digits
 pub rounded-short : (l : List ℕ) (q : ℕ) → allDigits l ≡ true → length l < q → rounded (valueOf l) (10 ^ q) ≡ 0

@@ -1,9 +1,9 @@
 -- What the functions that take a word apart and read its digits say to one another.
 use mathlib.Core.Bool.{Bool, true, false, cond}
 use mathlib.Core.List.{List, [], _++_}
-use Prim.Native.Nat.{ℕ, suc, _+_, _*_, _/_, _^_}
+use Prim.Native.Nat.{ℕ, suc, _+_, _-_, _*_, _/_, _^_}
 use lib.Dec.{leb}
-use lib.ListN.{length, getD, drop}
+use lib.ListN.{length, getD, drop, replicate}
 use Rattle.icgem_words.specs.Words.{pieces}
 use Rattle.icgem_decimal.specs.Decimal.{isLetter, isDot, isMinus, unsigned, valueOf, Held}
 
@@ -43,3 +43,8 @@ down text = cond (isMinus text) (valueOf (unsigned text)) 0
 -- digits before and after the dot, in units of 10^-places
 abbrev pub inPlaces : ℕ → List ℕ → List ℕ → List ℕ → ℕ
 inPlaces places a b exponent = rounded (valueOf (a ++ b) * 10 ^ (places + up exponent)) (10 ^ (length b + down exponent))
+
+-- ---- Numbers compared
+-- n digits, zeros standing before the text's
+abbrev pub padded : ℕ → List ℕ → List ℕ
+padded n text = replicate (n - length text) 48 ++ text

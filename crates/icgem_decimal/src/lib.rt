@@ -2,10 +2,11 @@
 ghost use mathlib.Core.Path.{_≡_};
 ghost use mathlib.Core.Bool.{true};
 ghost use mathlib.Core.List.{_++_};
-ghost use Prim.Native.Nat.{_+_, _-_, _*_, _^_, _≤_, _<_, min};
+ghost use Prim.Native.Nat.{_+_, _-_, _*_, _^_, _≤_, _<_, min, max};
+ghost use lib.Dec.{leb, eqb};
 ghost use lib.ListN.{length, getD, take};
 ghost use Rattle.icgem_decimal.specs.Decimal.{isDigit, allDigits, isWhole, isMinus, unsigned, valueOf, isExponent, Held, WholeTaken, Taken};
-ghost use Rattle.icgem_decimal.specs.Inner.{Mapped, rounded, half, parting, before, after, inPlaces};
+ghost use Rattle.icgem_decimal.specs.Inner.{Mapped, rounded, half, parting, before, after, inPlaces, padded};
 
 // A number, or that it is 2^64 or more.
 struct Sum {
@@ -335,4 +336,50 @@ pub fn in_units(word: &[u8], places: usize) -> Decimal
         over: false,
         size: 0,
     }
+}
+
+fn greatest(a: usize, b: usize) -> usize
+    ensures { λ r. ⌜ r ≡ max a b ⌝ }
+{
+    if a < b { b } else { a }
+}
+
+// A digit of a text that zeros before it make n digits long.
+fn padded_at(text: &[u8], n: usize, i: usize) -> u8
+    requires { ⌜ length (now text) ≤ n ⌝ }
+    requires { ⌜ i < n ⌝ }
+    ensures { λ r. ⌜ r ≡ getD (padded n (now (text .entry))) i 0 ⌝ }
+{
+    let zeros = n - text.len();
+    if i < zeros { 48 } else { text[i - zeros] }
+}
+
+// Whether a whole number is at most another, of any length: the first digit that differs decides.
+pub fn at_most(a: &[u8], b: &[u8]) -> bool
+    requires { ⌜ isWhole (now a) ≡ true ⌝ }
+    requires { ⌜ isWhole (now b) ≡ true ⌝ }
+    ensures { λ r. ⌜ r ≡ leb (valueOf (now (a .entry))) (valueOf (now (b .entry))) ⌝ }
+{
+    let n = greatest(a.len(), b.len());
+    let mut i = 0;
+    while i < n {
+        let x = padded_at(a, n, i);
+        let y = padded_at(b, n, i);
+        if x < y {
+            return true;
+        }
+        if y < x {
+            return false;
+        }
+        i += 1;
+    }
+    true
+}
+
+pub fn same_number(a: &[u8], b: &[u8]) -> bool
+    requires { ⌜ isWhole (now a) ≡ true ⌝ }
+    requires { ⌜ isWhole (now b) ≡ true ⌝ }
+    ensures { λ r. ⌜ r ≡ eqb (valueOf (now (a .entry))) (valueOf (now (b .entry))) ⌝ }
+{
+    at_most(a, b) & at_most(b, a)
 }
