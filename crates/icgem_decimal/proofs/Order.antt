@@ -81,12 +81,16 @@ module _ {n : ℕ} {a b : List ℕ} {i : ℕ} (g : Agree n a b i) where
     room-a = g .room-a;
     room-b = g .room-b;
     alike =
-        rw (value-next (padded n a) i (omega (arith, padded-length n a (g .room-a))), value-next (padded n b) i (omega (arith, padded-length n b (g .room-b))), e, g .alike);
+        let la = padded-length n a (g .room-a) in
+        let lb = padded-length n b (g .room-b) in
+        rw (value-next (padded n a) i (omega arith), value-next (padded n b) i (omega arith), e, g .alike);
   }
 
   pub agree-all : n ≤ i → valueOf a ≡ valueOf b
   agree-all h =
-      rw (take-all i (padded n a) (omega (arith, padded-length n a (g .room-a))), take-all i (padded n b) (omega (arith, padded-length n b (g .room-b))), padded-value n a, padded-value n b)
+      let la = padded-length n a (g .room-a) in
+      let lb = padded-length n b (g .room-b) in
+      rw (take-all i (padded n a) (omega arith), take-all i (padded n b) (omega arith), padded-value n a, padded-value n b)
       at (g .alike)
 
 -- ---- equal, where each is at most the other

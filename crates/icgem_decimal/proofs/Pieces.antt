@@ -78,7 +78,8 @@ module _ (parts : ℕ → Bool) where
   one-more [] h = absurd (omega arith)
   one-more (b ∷ t) h =
       either (parts b) (λ e. ap length (here b t e) ∙ ap (λ (l : List ℕ). suc (length (pieces parts l))) (sym (after-here b t e)))
-      (λ e. further-length b t e ∙ one-more t (omega (arith, ap length (before-further b t e))) ∙ ap (λ (l : List ℕ). suc (length (pieces parts l))) (sym (after-further b t e)))
+      (λ e. further-length b t e ∙ one-more t (omega (arith, ap length (before-further b t e)))
+      ∙ ap (λ (l : List ℕ). suc (length (pieces parts l))) (sym (after-further b t e)))
 
   pub no-more : (text : List ℕ) → length text ≤ length (before parts text) → length (pieces parts text) ≡ 1
   unfolding pieces

@@ -36,7 +36,8 @@ module _ (n up down : ℕ) where
   pub rounded-exact : down ≤ up → rounded (n * 10 ^ up) (10 ^ down) ≡ n * 10 ^ (up - down)
   rounded-exact h =
       let e : up - down + down ≡ up = omega arith in
-      let P : n * 10 ^ up ≡ n * 10 ^ (up - down) * 10 ^ down = ap (λ (k : ℕ). n * 10 ^ k) (sym e) ∙ ap (λ (t : ℕ). n * t) (pow-add 10 (up - down) down) ∙ sym (mul-assoc n (10 ^ (up - down)) (10 ^ down)) in
+      let P : n * 10 ^ up ≡ n * 10 ^ (up - down) * 10 ^ down =
+      ap (λ (k : ℕ). n * 10 ^ k) (sym e) ∙ ap (λ (t : ℕ). n * t) (pow-add 10 (up - down) down) ∙ sym (mul-assoc n (10 ^ (up - down)) (10 ^ down)) in
       let Z : 10 ^ down / 2 / 10 ^ down ≡ 0 = div-eq-of-lt (omega (arith, ten-pos down)) in
       ap (λ (t : ℕ). rounded t (10 ^ down)) P ∙ mul-add-div-right (ten-pos down) (n * 10 ^ (up - down)) (10 ^ down / 2) ∙ omega (arith, Z)
 

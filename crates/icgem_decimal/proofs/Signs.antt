@@ -24,7 +24,8 @@ unfolding isMinus
 minus-some [] s = absurd (s refl)
 minus-some (b ∷ text) s = refl
 
-pub unsigned-sign : (text : List ℕ) → (length text ≡ 0 → ⊥) → (eqb (getD text 0 0) 43 || eqb (getD text 0 0) 45) ≡ true → take (length text - 1) (drop 1 text) ≡ unsigned text
+pub unsigned-sign : (text : List ℕ) → (length text ≡ 0 → ⊥) → (eqb (getD text 0 0) 43 || eqb (getD text 0 0) 45) ≡ true
+    → take (length text - 1) (drop 1 text) ≡ unsigned text
 unfolding unsigned
 unsigned-sign [] s e = absurd (s refl)
 unsigned-sign (b ∷ text) s e = rw e (take-all (suc (length text) - 1) text (omega arith))

@@ -50,7 +50,8 @@ module _ (word : List ℕ) where
       rw (one-more isLetter word h, second isLetter word)
       (either (eqb (length (pieces isLetter rest)) 1)
       (λ e. rw (eqb-true (length (pieces isLetter rest)) 1 e, sole isLetter rest (eqb-true (length (pieces isLetter rest)) 1 e)))
-      (λ e. rw (ne-eqb (suc (length (pieces isLetter rest))) 1 (omega (arith, some isLetter rest)), ne-eqb (suc (length (pieces isLetter rest))) 2 (omega (arith, other isLetter rest e))) (several e)))
+      (λ e. let k = length (pieces isLetter rest) in
+      rw (ne-eqb (suc k) 1 (omega (arith, some isLetter rest)), ne-eqb (suc k) 2 (omega (arith, other isLetter rest e))) (several e)))
 
   pub exponent-digits : isExponent word ≡ true → allDigits (unsigned rest) ≡ true
   unfolding unsigned allDigits

@@ -14,17 +14,17 @@ struct Sum {
     value: u64,
 }
 
+pub struct Whole {
+    pub ok: bool,
+    pub over: bool,
+    pub value: u64,
+}
+
 pub struct Decimal {
     pub ok: bool,
     pub negative: bool,
     pub over: bool,
     pub size: u64,
-}
-
-pub struct Whole {
-    pub ok: bool,
-    pub over: bool,
-    pub value: u64,
 }
 
 // Ten times a number, and a digit.
@@ -52,7 +52,7 @@ fn next(s: Sum, digit: u64) -> Sum
 fn is_digit(b: u8) -> bool
     ensures { λ r. ⌜ r ≡ isDigit b ⌝ }
 {
-    (48 <= b) & (b <= 57)
+    (b'0' <= b) & (b <= b'9')
 }
 
 fn all_digits(text: &[u8]) -> bool
@@ -73,7 +73,7 @@ fn digit_of(b: u8) -> u64
     requires { ⌜ isDigit b ≡ true ⌝ }
     ensures { λ r. ⌜ (r ≡ b - 48) × (r ≤ 9) ⌝ }
 {
-    (b - 48) as u64
+    (b - b'0') as u64
 }
 
 // A byte of two texts, one after the other.
@@ -140,7 +140,7 @@ fn least(a: usize, b: usize) -> usize
     if a < b { a } else { b }
 }
 
-// Times 10^k. Twenty times ten is past 2^64, but for 0.
+// Times 10^k. 10^20 is past 2^64, so that twenty turns are enough for every number.
 fn raised(s: Sum, k: usize) -> Sum
     ensures { λ r. ⌜ Mapped (λ n. n * 10 ^ k) (s .over) (s .value) (r .over) (r .value) ⌝ }
 {
@@ -174,7 +174,7 @@ fn cut(a: &[u8], b: &[u8], count: usize) -> Sum
     ensures { λ r. ⌜ Held (r .over) (r .value) (valueOf (take count (now (a .entry) ++ now (b .entry))) + half (getD (now (a .entry) ++ now (b .entry)) count 0)) ⌝ }
 {
     let s = read_first(a, b, count);
-    if 53 <= byte_at(a, b, count) {
+    if b'5' <= byte_at(a, b, count) {
         one_more(s)
     } else {
         s
@@ -221,9 +221,9 @@ fn is_parting(letter: bool, b: u8) -> bool
     ensures { λ r. ⌜ r ≡ parting letter b ⌝ }
 {
     if letter {
-        ((b == 69) | (b == 101)) | ((b == 68) | (b == 100))
+        ((b == b'E') | (b == b'e')) | ((b == b'D') | (b == b'd'))
     } else {
-        b == 46
+        b == b'.'
     }
 }
 
@@ -264,7 +264,7 @@ fn is_minus(text: &[u8]) -> bool
     if text.len() == 0 {
         false
     } else {
-        text[0] == 45
+        text[0] == b'-'
     }
 }
 
@@ -275,7 +275,7 @@ fn without_sign(text: &[u8]) -> &[u8]
         return text;
     }
     let b = text[0];
-    if (b == 43) | (b == 45) {
+    if (b == b'+') | (b == b'-') {
         &text[1..]
     } else {
         text
@@ -294,7 +294,7 @@ fn is_exponent(word: &[u8]) -> bool
     }
 }
 
-// Digits with an exponent, in units of 10^-places. An exponent of a million decides alone, there being fewer digits.
+// Digits with an exponent, in units of 10^-places. An exponent of a million or more decides alone, there being fewer digits.
 fn in_places(a: &[u8], b: &[u8], exponent: &[u8], places: usize) -> Sum
     requires { ⌜ allDigits (now a ++ now b) ≡ true ⌝ }
     requires { ⌜ allDigits (unsigned (now exponent)) ≡ true ⌝ }
@@ -351,7 +351,7 @@ fn padded_at(text: &[u8], n: usize, i: usize) -> u8
     ensures { λ r. ⌜ r ≡ getD (padded n (now (text .entry))) i 0 ⌝ }
 {
     let zeros = n - text.len();
-    if i < zeros { 48 } else { text[i - zeros] }
+    if i < zeros { b'0' } else { text[i - zeros] }
 }
 
 // Whether a whole number is at most another, of any length: the first digit that differs decides.

@@ -35,7 +35,8 @@ returns c =
     let x = y .before in
     let l = x .before .before in
     let s = l .before .before .before .before in
-    sym (le-leb _ _ (le-of-lt (decided (l .loop .inv .1) (whole-digits (s .args .a .now) (s .pre .0)) (x .before .loop-test .taken) (rw (x .padded-at .ensures, y .padded-at2 .ensures) at (c .if1 .taken)))))
+    let d = rw (x .padded-at .ensures, y .padded-at2 .ensures) at (c .if1 .taken) in
+    sym (le-leb _ _ (le-of-lt (decided (l .loop .inv .1) (whole-digits (s .args .a .now) (s .pre .0)) (x .before .loop-test .taken) d)))
 
 returns-2 : tie.Need-returns-2 Inv-loop μ-loop
 returns-2 c =
@@ -43,7 +44,8 @@ returns-2 c =
     let x = y .before in
     let l = x .before .before in
     let s = l .before .before .before .before in
-    sym (lt-leb _ _ (decided (agree-turned (l .loop .inv .1)) (whole-digits (s .args .b .now) (s .pre .1)) (x .before .loop-test .taken) (rw (x .padded-at .ensures, y .padded-at2 .ensures) at (c .if2 .taken))))
+    let d = rw (x .padded-at .ensures, y .padded-at2 .ensures) at (c .if2 .taken) in
+    sym (lt-leb _ _ (decided (agree-turned (l .loop .inv .1)) (whole-digits (s .args .b .now) (s .pre .1)) (x .before .loop-test .taken) d))
 
 add-i : tie.Need-add-i Inv-loop μ-loop
 add-i c = search needs

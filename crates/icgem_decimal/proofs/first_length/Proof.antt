@@ -28,7 +28,8 @@ returns : tie.Need-returns Inv-loop μ-loop
 returns c =
     let a = c .before .before .before .before in
     let s = a .before .before in
-    omega (arith, a .loop .inv .1, stopped (parting (s .args .letter)) (s .args .text .now) (a .loop .i) (omega arith) (sym (c .before .is-parting .ensures) ∙ c .if1 .taken))
+    let e = sym (c .before .is-parting .ensures) ∙ c .if1 .taken in
+    omega (arith, a .loop .inv .1, stopped (parting (s .args .letter)) (s .args .text .now) (a .loop .i) (omega arith) e)
 
 add-i : tie.Need-add-i Inv-loop μ-loop
 add-i c = search needs
@@ -40,7 +41,8 @@ loop-again : tie.Need-loop-again Inv-loop μ-loop
 loop-again c =
     let a = c .before .before .before .before in
     let s = a .before .before in
-    (omega arith, omega (arith, a .loop .inv .1, passed (parting (s .args .letter)) (s .args .text .now) (a .loop .i) (omega arith) (sym (c .before .is-parting .ensures) ∙ c .if1 .left)))
+    let e = sym (c .before .is-parting .ensures) ∙ c .if1 .left in
+    (omega arith, omega (arith, a .loop .inv .1, passed (parting (s .args .letter)) (s .args .text .now) (a .loop .i) (omega arith) e))
 
 returns-2 : tie.Need-returns-2 Inv-loop μ-loop
 returns-2 c =

@@ -38,8 +38,9 @@ in-places-requires c κs =
     let w = c .before .before in
     let e = w .before .before in
     let f = e .before in
-    let s = f .before .before .before .before .before in
-    let p = parts (f .before .before .before .part-before .ensures) (f .before .before .without-sign .ensures) (f .before .part-before2 .ensures) (f .part-after .ensures) in (
+    let h = f .before .before in
+    let s = h .before .before .before in
+    let p = parts (h .before .part-before .ensures) (h .without-sign .ensures) (f .before .part-before2 .ensures) (f .part-after .ensures) in (
       whole-digits _ (sym (w .is-whole .ensures) ∙ c .before .if2 .taken),
       (
         ap (λ (t : List ℕ). allDigits (unsigned t)) (c .part-after2 .ensures) ∙ exponent-digits _ (sym (e .is-exponent .ensures) ∙ w .before .if1 .taken),
@@ -56,8 +57,9 @@ returns c =
     let w = a .before .before in
     let e = w .before .before in
     let f = e .before in
-    let s = f .before .before .before .before .before in
-    let p = parts (f .before .before .before .part-before .ensures) (f .before .before .without-sign .ensures) (f .before .part-before2 .ensures) (f .part-after .ensures) in
+    let h = f .before .before in
+    let s = h .before .before .before in
+    let p = parts (h .before .part-before .ensures) (h .without-sign .ensures) (f .before .part-before2 .ensures) (f .part-after .ensures) in
     taken p (s .args .places) _ (a .part-after2 .ensures) (sym (e .is-exponent .ensures) ∙ w .before .if1 .taken)
     (parts-whole p ∙ sym (w .is-whole .ensures) ∙ a .before .if2 .taken)
     (c .is-minus .ensures)
@@ -67,8 +69,9 @@ returns-2 : tie.Need-returns-2
 returns-2 c =
     let w = c .before in
     let f = w .before .before .before in
-    let s = f .before .before .before .before .before in
-    let p = parts (f .before .before .before .part-before .ensures) (f .before .before .without-sign .ensures) (f .before .part-before2 .ensures) (f .part-after .ensures) in
+    let h = f .before .before in
+    let s = h .before .before .before in
+    let p = parts (h .before .part-before .ensures) (h .without-sign .ensures) (f .before .part-before2 .ensures) (f .part-after .ensures) in
     refused (s .args .places) (s .args .word .now) (rw (parts-whole p, ← w .is-whole .ensures, c .if2 .left) (and-false (isExponent (s .args .word .now))))
 
 returns-3 : tie.Need-returns-3

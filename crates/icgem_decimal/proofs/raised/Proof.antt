@@ -33,7 +33,10 @@ loop-again : tie.Need-loop-again Inv-loop μ-loop
 loop-again c = (omega arith, raise-next (c .before .before .loop .i) (c .before .before .loop .inv .1) (c .next .ensures))
 
 returns : tie.Need-returns Inv-loop μ-loop
-returns c = let e : c .before .loop .i ≡ min (c .before .before .before .args .k) 20 = omega (arith, c .before .before .least .ensures) in raise-all (c .before .before .before .args .k) (rw e at (c .before .loop .inv .1))
+returns c =
+    let k = c .before .before .before .args .k in
+    let e : c .before .loop .i ≡ min k 20 = omega (arith, c .before .before .least .ensures) in
+    raise-all k (rw e at (c .before .loop .inv .1))
 
 pub raised-spec : {M : Type 1} → statement M
 raised-spec =

@@ -43,10 +43,11 @@ loop-again : tie.Need-loop-again Inv-loop μ-loop
 loop-again c =
     let a = c .before .before .before .before in
     let s = a .before .before .before in
+    let n = length-append (s .args .a .now) (s .args .b .now) in
     let text = s .args .a .now ++ s .args .b .now in (
       omega arith,
       rw
-          (value-next text (a .loop .i) (omega (arith, length-append (s .args .a .now) (s .args .b .now))), ← c .before .before .byte-at .ensures, ← c .before .digit-of .ensures .0)
+          (value-next text (a .loop .i) (omega arith), ← c .before .before .byte-at .ensures, ← c .before .digit-of .ensures .0)
           (c .next .ensures .each (valueOf (take (a .loop .i) text)) (a .loop .inv .1)),
     )
 

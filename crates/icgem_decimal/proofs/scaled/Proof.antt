@@ -25,7 +25,8 @@ returns : tie.Need-returns
 returns c =
     let s = c .before .before .before .before .before in
     let l = s .args .a .now ++ s .args .b .now in
-    rw (rounded-exact (valueOf l) (s .args .up) (s .args .down) (omega arith), ← take-all (length (s .args .a .now) + length (s .args .b .now)) l (omega (arith, length-append (s .args .a .now) (s .args .b .now))))
+    let n = length-append (s .args .a .now) (s .args .b .now) in
+    rw (rounded-exact (valueOf l) (s .args .up) (s .args .down) (omega arith), ← take-all (length (s .args .a .now) + length (s .args .b .now)) l (omega arith))
     (c .raised .ensures .each _ (c .before .read-first .ensures))
 
 sub-places : tie.Need-sub-places
@@ -38,7 +39,8 @@ returns-2 : tie.Need-returns-2
 returns-2 c =
     let s = c .before .before .before .before in
     let l = s .args .a .now ++ s .args .b .now in
-    rw (rounded-lower (valueOf l) (s .args .up) (s .args .down) (omega arith), rounded-short l (s .args .down - s .args .up) (s .pre .0) (omega (arith, length-append (s .args .a .now) (s .args .b .now))))
+    let n = length-append (s .args .a .now) (s .args .b .now) in
+    rw (rounded-lower (valueOf l) (s .args .up) (s .args .down) (omega arith), rounded-short l (s .args .down - s .args .up) (s .pre .0) (omega arith))
     (held-below refl (omega arith))
 
 returns-3 : tie.Need-returns-3
