@@ -2,14 +2,17 @@
 use mathlib.Core.List.{List}
 use Prim.Native.Nat.{ℕ, _+_, _*_}
 use lib.IntN.{ℤ}
+use lib.ListN.{length}
 use Rattle.arguments.specs.declared.Phases.{Phases}
 use Rattle.refusals.specs.Told.{Told, next}
 use Rattle.refusals.specs.Told.Told.{accepted, refused}
 use Rattle.doodson.specs.Doodson.{readDoodson}
 use Rattle.hour.specs.declared.Hour.{Hour}
 use Rattle.hour.specs.Hour.{movedHour}
-use Rattle.refusals.specs.Outcome.{Outcome}
-use Rattle.leaving.specs.Leaving.{listedOf}
+use Rattle.refusals.specs.Outcome.{Outcome, toldUnless}
+use Rattle.icgem_write.specs.Outcome.{writeRefusal, bytesAfter}
+use Rattle.icgem_write.specs.Written.{fileText}
+use Rattle.leaving.specs.Leaving.{Leaves, listedOf}
 use Rattle.permanent.specs.Systems.{movedC20}
 use Rattle.surfgimlet.specs.Calls.{solidTide, poleTide, oceanTide}
 use Rattle.crossing.specs.declared.GivenBody.{GivenBody}
@@ -40,6 +43,29 @@ oceanGiven n c s sheet phases frame = outcomeOf c s (next (frameOf frame) (λ f.
 unfoldable pub moveGiven : ℤ → ℕ → ℕ → ℕ → Told ℤ
 moveGiven c20 from to love =
     next (permanentSystem from) (λ f. next (permanentSystem to) (λ t. next (loveModel love) (λ k. movedC20 c20 f t k)))
+
+-- what a call that writes tells, and its output afterwards
+pub record GivenBytes : Type 0 where
+  pub told : Told ℕ
+  pub bytes : List ℕ
+
+-- the call in a system that is named, or the number and every byte as it was
+abbrev pub bytesOf : List ℕ → Told GivenBytes → GivenBytes
+bytesOf out (accepted given) = given
+bytesOf out (refused number) = record { told = refused number; bytes = out }
+
+unfoldable pub writeGiven : ℕ → List ℤ → List ℤ → ℕ → ℕ → ℕ → List ℕ → GivenBytes
+writeGiven n c s constant radius system out =
+    bytesOf out
+    (next (permanentSystem system) (λ p.
+    let text = fileText n c s constant radius p in
+    let number = writeRefusal n c s text (length out) in
+    accepted (record { told = toldUnless number (length text); bytes = bytesAfter number text out })))
+
+-- the answer, how many bytes were written, and the output as the call returns
+pub record LeavesBytes (given : GivenBytes) (out : List ℕ) (before number after : ℕ) : Type 0 where
+  pub left : Leaves (given .told) before number after
+  pub bytes-are : out ≡ given .bytes
 
 abbrev pub multipliersGiven : ℕ → Told (List ℤ)
 multipliersGiven number = listedOf (readDoodson number)

@@ -10,7 +10,7 @@ ghost use Rattle.refusals.specs.Outcome.{Gives};
 ghost use Rattle.surfgimlet.specs.Calls.{ownLines};
 ghost use Rattle.profiles.specs.Profiles.{allLines, majorLines};
 ghost use Rattle.selection.specs.Selection.{linesNamed};
-ghost use Rattle.boundary.specs.Calls.{versionNumber, solidGiven, hourGiven, poleGiven, oceanGiven, moveGiven, multipliersGiven};
+ghost use Rattle.boundary.specs.Calls.{versionNumber, solidGiven, hourGiven, poleGiven, oceanGiven, moveGiven, LeavesBytes, writeGiven, multipliersGiven};
 use arguments::Phases;
 use bodies::Body;
 use choices::Frame;
@@ -183,6 +183,31 @@ pub extern "C" fn surfgimlet_move_c20(
         let to: PermanentSystem = crossing::system_of(to);
         let love: LoveModel = crossing::love_of(love);
         leaving::leave_moved(surfgimlet::move_c20(c20, from, to, love), moved)
+    } else {
+        NO_SUCH_CHOICE
+    }
+}
+
+// A field written as text. Refused: 100, then as surfgimlet::write_field.
+#[no_mangle]
+pub extern "C" fn surfgimlet_write_field(
+    n: u32,
+    c: &[i64],
+    s: &[i64],
+    constant: u64,
+    radius: u64,
+    system: u32,
+    out: &mut [u8],
+    written: &mut usize,
+) -> u32
+    ensures { λ r. ⌜ LeavesBytes (writeGiven n (now (c .entry)) (now (s .entry)) constant radius system (now (out .entry))) (now (out .exit)) (now (written .entry)) r (now (written .exit)) ⌝ }
+{
+    if crossing::is_system(system) {
+        let system: PermanentSystem = crossing::system_of(system);
+        leaving::leave_wrote(
+            surfgimlet::write_field(n, c, s, constant, radius, system, out),
+            written,
+        )
     } else {
         NO_SUCH_CHOICE
     }

@@ -1,12 +1,14 @@
 // What a call answers to C beside its number: each value goes to the lent memory that is its own, and where the call is refused the
 // memory keeps what it holds.
 ghost use Rattle.doodson.specs.Doodson.{tellsRead, tellsWritten};
+ghost use Rattle.icgem_write.specs.Outcome.{tells as tellsWrote};
 ghost use Rattle.lines.specs.Lines.{tells as tellsSought};
 ghost use Rattle.permanent.specs.Systems.{tells as tellsMoved};
 ghost use Rattle.selection.specs.Selection.{tells as tellsNamed};
 ghost use Rattle.leaving.specs.Leaving.{listedOf, found, Leaves};
 use doodson::Read;
 use doodson::Written;
+use icgem_write::Wrote;
 use lines::Sought;
 use permanent::Moved;
 use refusals::refusal_number;
@@ -33,6 +35,18 @@ pub fn leave_named(told: Named, lines: &mut u32) -> u32
             0
         }
         Named::Refused(why) => refusal_number(why),
+    }
+}
+
+pub fn leave_wrote(told: Wrote, written: &mut usize) -> u32
+    ensures { λ r. ⌜ Leaves (tellsWrote told) (now (written .entry)) r (now (written .exit)) ⌝ }
+{
+    match told {
+        Wrote::Bytes(count) => {
+            *written = count;
+            0
+        }
+        Wrote::Refused(why) => refusal_number(why),
     }
 }
 

@@ -8,6 +8,7 @@ ghost use Rattle.doodson.specs.Doodson.{readDoodson, writeDoodson, tellsRead, t
 ghost use Rattle.field.specs.Added.{addedAt};
 ghost use Rattle.field.specs.Field.{fieldRefusal};
 ghost use Rattle.hour.specs.Hour.{hourAt, startHour, movedHour};
+ghost use Rattle.icgem_write.specs.Outcome.{Writes, tells as tellsWrote};
 ghost use Rattle.lines.specs.Lines.{findLine, tells as tellsSought};
 ghost use Rattle.permanent.specs.Systems.{movedC20, tells as tellsMoved};
 ghost use Rattle.refusals.specs.Numbers.{answerNumber};
@@ -27,6 +28,7 @@ use choices::PermanentSystem;
 use doodson::Read;
 use doodson::Written;
 use hour::Hour;
+use icgem_write::Wrote;
 use lines::Sought;
 use own::OwnLine;
 use own::Summed;
@@ -192,6 +194,25 @@ pub fn move_c20(c20: i64, from: PermanentSystem, to: PermanentSystem, love: Love
     ensures { λ r. ⌜ tellsMoved r ≡ movedC20 c20 from to love ⌝ }
 {
     permanent::move_c20(c20, from, to, love)
+}
+
+// A field written as the text of a gravity field file (document 02, T-10).
+// Given: a field, its gravity constant in m3/s2, its radius in millimetres, its permanent system, an output of bytes.
+// Done: the text stands at the output's start, coefficients with 15 decimals; every byte after it stays.
+// Answered: how many bytes were written, 54*(9 + (n+1)(n+2)/2).
+// Refused: 1, 2, then 21, an output of fewer bytes than the text has.
+pub fn write_field(
+    n: u32,
+    c: &[i64],
+    s: &[i64],
+    constant: u64,
+    radius: u64,
+    system: PermanentSystem,
+    out: &mut [u8],
+) -> Wrote
+    ensures { λ r. ⌜ Writes n (now (c .entry)) (now (s .entry)) constant radius system (now (out .entry)) (tellsWrote r) (now (out .exit)) ⌝ }
+{
+    icgem_write::write_field(n, c, s, constant, radius, system, out)
 }
 
 // A Doodson number's six multipliers (document 01, "Doodson numbers"). Refused: 10.

@@ -19,7 +19,7 @@ returns : tie.Need-returns
 returns c = rw (c .before .told .given .1, back w64 (c .before .told .given .0 .0) (c .known-told .given .0 .1)) (record { answer = refl; result = refl })
 
 returns-2 : tie.Need-returns-2
-returns-2 c = search needs
+returns-2 c = rw (c .before .before .told2 .given .1) (record { answer = c .refusal-number .ensures; result = refl })
 
 pub leave-moved-spec : {M : Type 1} → statement M
 leave-moved-spec =

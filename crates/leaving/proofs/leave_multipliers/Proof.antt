@@ -25,7 +25,7 @@ returns c =
     (record { answer = refl; result = refl })
 
 returns-2 : tie.Need-returns-2
-returns-2 c = search needs
+returns-2 c = rw (c .before .before .told2 .given .1) (record { answer = c .refusal-number .ensures; result = refl })
 
 pub leave-multipliers-spec : {M : Type 1} → statement M
 leave-multipliers-spec =
