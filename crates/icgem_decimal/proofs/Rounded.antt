@@ -1,14 +1,14 @@
 -- Digits times a power of ten over another, rounded: exact, cut, or nothing.
 use mathlib.Core.Path.{_≡_, refl, sym, ap, ap₂, _∙_}
 use mathlib.Core.Bool.{Bool, true, false, cond}
-use mathlib.Core.List.{List}
+use mathlib.Core.List.{List, _++_}
 use Prim.Native.Nat.{ℕ, suc, _+_, _-_, _*_, _/_, _^_, _≤_, _<_, min}
 use native.Mathlib.Nat.{pow-suc, one-le-pow, pow-le-pow-right, mul-le-mul-right, mul-add-div-right, div-eq-of-lt, div-eq-of-lt-le, mul-assoc}
 use native.Mathlib.Omega.{arith}
 use borrow.Author.Tests.{leb-true, leb-false}
 use lib.Dec.{leb}
 use lib.IntN.{natAbs}
-use lib.ListN.{length, getD, take, drop, length-drop}
+use lib.ListN.{length, getD, take, drop, length-append, length-drop}
 use lib.Pow.{pow-add}
 use Rattle.whole.proofs.Signed.{abs-signed, nearest-signed, nearest-same}
 use Rattle.whole.proofs.Tests.{both-ends}
@@ -29,7 +29,7 @@ same-rounded n d q m D M same =
     ∙ abs-signed false (rounded q m)
 
 -- below one half
-pub rounded-none : (n d : ℕ) → 2 * n < d → rounded n d ≡ 0
+rounded-none : (n d : ℕ) → 2 * n < d → rounded n d ≡ 0
 rounded-none n d h = div-eq-of-lt (omega arith)
 
 module _ (n up down : ℕ) where
@@ -74,21 +74,34 @@ rounded-short l q e h =
     rounded-none (valueOf l) (10 ^ q) (omega (arith, value-below l e, pow-suc 10 (length l), pow-le-pow-right (ten-pos 1) h))
 
 -- ---- an exponent v read as x, which is at most a million
-module _ (l : List ℕ) (places f v x : ℕ) (D : allDigits l ≡ true) (short : length l ≤ 131072) (F : f ≤ length l) (P : places ≤ 15) (X : x ≡ min v 1000000) where
+pub record Read (l : List ℕ) (places f v x : ℕ) : Type 0 where
+  pub digits : allDigits l ≡ true
+  pub short : length l ≤ 131072
+  pub fraction : f ≤ length l
+  pub few : places ≤ 15
+  pub capped : x ≡ min v 1000000
+
+pub read : (a b text : List ℕ) (places x : ℕ) → allDigits (a ++ b) ≡ true → length a + length b ≤ 131072 → places ≤ 15 → x ≡ min (valueOf text) 1000000
+    → Read (a ++ b) places (length b) (valueOf text) x
+read a b text places x D S P X =
+    let n = length-append a b in
+    record { digits = D; short = omega arith; fraction = omega arith; few = P; capped = X }
+
+module _ {l : List ℕ} {places f v x : ℕ} (g : Read l places f v x) where
   far-up : {o : Bool} {r : ℕ} → 1000000 ≤ v → Held o r (rounded (valueOf l * 10 ^ (places + x)) (10 ^ f)) → Held o r (rounded (valueOf l * 10 ^ (places + v)) (10 ^ f))
-  far-up h g =
+  far-up h m =
       rw (rounded-exact (valueOf l) (places + v) f (omega arith))
-      (held-far (valueOf l) (places + x - f) (places + v - f) (omega arith) (omega arith) (rw (rounded-exact (valueOf l) (places + x) f (omega arith)) at g))
+      (held-far (valueOf l) (places + x - f) (places + v - f) (omega arith) (omega arith) (rw (rounded-exact (valueOf l) (places + x) f (omega arith)) at m))
 
   pub capped-up : {o : Bool} {r : ℕ} → Held o r (rounded (valueOf l * 10 ^ (places + x)) (10 ^ f)) → Held o r (rounded (valueOf l * 10 ^ (places + v)) (10 ^ f))
-  capped-up g =
-      either (leb 1000000 v) (λ t. far-up (leb-true 1000000 v t) g)
-      (λ t. let e : v ≡ x = omega (arith, leb-false 1000000 v t) in rw e g)
+  capped-up m =
+      either (leb 1000000 v) (λ t. far-up (leb-true 1000000 v t) m)
+      (λ t. let e : v ≡ x = omega (arith, leb-false 1000000 v t) in rw e m)
 
   tiny : (j : ℕ) → 1000000 ≤ j → rounded (valueOf l * 10 ^ places) (10 ^ (f + j)) ≡ 0
-  tiny j h = rounded-lower (valueOf l) places (f + j) (omega arith) ∙ rounded-short l (f + j - places) D (omega arith)
+  tiny j h = rounded-lower (valueOf l) places (f + j) (omega arith) ∙ rounded-short l (f + j - places) (g .digits) (omega arith)
 
   pub capped-down : {o : Bool} {r : ℕ} → Held o r (rounded (valueOf l * 10 ^ places) (10 ^ (f + x))) → Held o r (rounded (valueOf l * 10 ^ places) (10 ^ (f + v)))
-  capped-down g =
-      either (leb 1000000 v) (λ t. let h = leb-true 1000000 v t in rw (tiny v h, ← tiny x (omega arith)) g)
-      (λ t. let e : v ≡ x = omega (arith, leb-false 1000000 v t) in rw e g)
+  capped-down m =
+      either (leb 1000000 v) (λ t. let h = leb-true 1000000 v t in rw (tiny v h, ← tiny x (omega arith)) m)
+      (λ t. let e : v ≡ x = omega (arith, leb-false 1000000 v t) in rw e m)

@@ -41,8 +41,8 @@ module _ (word : List ℕ) where
   rest-none : length word ≤ length (before isLetter word) → rest ≡ []
   rest-none h = let past : length word ≤ suc (length (before isLetter word)) = omega arith in drop-of-length-le word past
 
-  several : (eqb (length (pieces isLetter rest)) 1 ≡ false) → false ≡ isWhole (unsigned rest)
-  several e = sym (not-so (isWhole (unsigned rest)) (λ w. eqb-false _ _ e (signed-sole rest (whole-digits (unsigned rest) w))))
+  several : eqb (length (pieces isLetter rest)) 1 ≡ false → false ≡ isWhole (unsigned rest)
+  several e = sym (not-so (isWhole (unsigned rest)) (λ w. other isLetter rest e (signed-sole rest (whole-digits (unsigned rest) w))))
 
   pub exponent-some : length (before isLetter word) < length word → isExponent word ≡ isWhole (unsigned rest)
   unfolding isExponent

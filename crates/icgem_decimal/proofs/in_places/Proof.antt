@@ -1,13 +1,11 @@
 -- Up or down by the exponent; one of a million or more changes nothing past a million.
 use borrow.Author.Needs.{needs}
 use mathlib.Core.Path.{ap, _∙_}
-use mathlib.Core.List.{List, _++_}
+use mathlib.Core.List.{List}
 use Prim.Native.Nat.{ℕ, min}
 use native.Mathlib.Nat.{add-zero}
-use native.Mathlib.Omega.{arith}
-use lib.ListN.{length, length-append}
 use Rattle.icgem_decimal.specs.Decimal.{valueOf, unsigned}
-use Rattle.icgem_decimal.proofs.Rounded.{capped-up, capped-down}
+use Rattle.icgem_decimal.proofs.Rounded.{read, capped-up, capped-down}
 use Rattle.icgem_decimal.proofs.in_places.Statement.{statement}
 use Rattle.icgem_decimal.proofs.in_places.Tie as tie
 
@@ -36,27 +34,17 @@ returns : tie.Need-returns
 returns c =
     let t = c .before in
     let s = t .before .before .before .before .before .before .before in
-    let l = s .args .a .now ++ s .args .b .now in
+    let e = t .before .before .read-capped .ensures ∙ ap (λ (u : List ℕ). min (valueOf u) 1000000) (t .before .before .before .without-sign .ensures) in
     rw (← t .before .is-minus .ensures, t .if1 .taken, add-zero)
-    (capped-down l (s .args .places) (length (s .args .b .now)) (valueOf (unsigned (s .args .exponent .now))) _ (s .pre .0)
-    (omega (arith, length-append (s .args .a .now) (s .args .b .now)))
-    (omega (arith, length-append (s .args .a .now) (s .args .b .now)))
-    (omega arith)
-    (t .before .before .read-capped .ensures ∙ ap (λ (u : List ℕ). min (valueOf u) 1000000) (t .before .before .before .without-sign .ensures))
-    (c .scaled .ensures))
+    (capped-down (read (s .args .a .now) (s .args .b .now) (unsigned (s .args .exponent .now)) _ _ (s .pre .0) (s .pre .1 .1 .0) (s .pre .1 .1 .1) e) (c .scaled .ensures))
 
 returns-2 : tie.Need-returns-2
 returns-2 c =
     let t = c .before in
     let s = t .before .before .before .before .before .before .before in
-    let l = s .args .a .now ++ s .args .b .now in
+    let e = t .before .before .read-capped .ensures ∙ ap (λ (u : List ℕ). min (valueOf u) 1000000) (t .before .before .before .without-sign .ensures) in
     rw (← t .before .is-minus .ensures, t .if1 .left, add-zero)
-    (capped-up l (s .args .places) (length (s .args .b .now)) (valueOf (unsigned (s .args .exponent .now))) _ (s .pre .0)
-    (omega (arith, length-append (s .args .a .now) (s .args .b .now)))
-    (omega (arith, length-append (s .args .a .now) (s .args .b .now)))
-    (omega arith)
-    (t .before .before .read-capped .ensures ∙ ap (λ (u : List ℕ). min (valueOf u) 1000000) (t .before .before .before .without-sign .ensures))
-    (c .scaled2 .ensures))
+    (capped-up (read (s .args .a .now) (s .args .b .now) (unsigned (s .args .exponent .now)) _ _ (s .pre .0) (s .pre .1 .1 .0) (s .pre .1 .1 .1) e) (c .scaled2 .ensures))
 
 pub in-places-spec : {M : Type 1} → statement M
 in-places-spec =
