@@ -18,7 +18,8 @@ use Rattle.refusals.specs.Outcome.{Outcome, GivesValue}
 use Rattle.refusals.specs.Told.{Told, next}
 use Rattle.refusals.specs.Told.Told.{accepted, refused}
 use Rattle.surfgimlet.specs.Calls.{solidTide}
-use Rattle.boundary.specs.Calls.{outcomeOf, solidGiven, moveGiven}
+use Rattle.icgem_write.specs.Outcome.{Writes}
+use Rattle.boundary.specs.Calls.{outcomeOf, solidGiven, moveGiven, bytesOf, written, writeGiven, LeavesBytes}
 
 -- a value that is told, left
 pub told-and-left : {A : Type 0} {o : Outcome} {value : A} {told : Told A} {c s : List ℤ} {number : ℕ} {before after : A} → GivesValue o value told c s → Leaves told before number after → GivesAndLeaves o value number c s before after
@@ -59,3 +60,20 @@ module _ (c20 : ℤ) (from to love : ℕ) where
   pub move-missing : (names (permanentSystem from) && names (permanentSystem to) && names (loveModel love)) ≡ false → moveGiven c20 from to love ≡ refused 100
   unfolding moveGiven
   move-missing e = three-missing (permanentSystem from) (permanentSystem to) (loveModel love) (movedC20 c20) (hundred _ from) (hundred _ to) (hundred _ love) e
+
+-- a system
+module _ (n : ℕ) (c s : List ℤ) (constant radius system : ℕ) (out : List ℕ) where
+  pub write-named : (p : PermanentSystem) → names (permanentSystem system) ≡ true → Converts (permanentSystem system) p
+      → writeGiven n c s constant radius system out ≡ written n c s constant radius out p
+  unfolding writeGiven
+  write-named p e h = ap (bytesOf out) (one-named (permanentSystem system) (λ a. accepted (written n c s constant radius out a)) p e h)
+
+  pub write-missing : names (permanentSystem system) ≡ false → writeGiven n c s constant radius system out ≡ record { told = refused 100; bytes = out }
+  unfolding writeGiven
+  write-missing e = ap (bytesOf out) (one-missing (permanentSystem system) (λ a. accepted (written n c s constant radius out a)) (hundred _ system) e)
+
+  -- what is written, left
+  pub writes-and-leaves : {p : PermanentSystem} {told : Told ℕ} {after : List ℕ} {before number left : ℕ} → writeGiven n c s constant radius system out ≡ written n c s constant radius out p
+      → Writes n c s constant radius p out told after → Leaves told before number left → LeavesBytes (writeGiven n c s constant radius system out) after before number left
+  writes-and-leaves {p} {told} {after} {before} {number} {left} e w l =
+      rw e (record { left = rw (← w .answer) l; bytes-are = w .bytes-are })

@@ -1,5 +1,6 @@
 -- What each call answers to C, and every lent entry afterwards: the unit's own call, or 100 and nothing changed.
 use mathlib.Core.List.{List}
+use mathlib.Core.Path.{_≡_}
 use Prim.Native.Nat.{ℕ, _+_, _*_}
 use lib.IntN.{ℤ}
 use lib.ListN.{length}
@@ -15,6 +16,7 @@ use Rattle.icgem_write.specs.Written.{fileText}
 use Rattle.leaving.specs.Leaving.{Leaves, listedOf}
 use Rattle.permanent.specs.Systems.{movedC20}
 use Rattle.surfgimlet.specs.Calls.{solidTide, poleTide, oceanTide}
+use Rattle.choices.specs.declared.PermanentSystem.{PermanentSystem}
 use Rattle.crossing.specs.declared.GivenBody.{GivenBody}
 use Rattle.crossing.specs.Choices.{loveModel, frameOf, permanentSystem, argumentOf, bodyOf}
 
@@ -54,13 +56,15 @@ abbrev pub bytesOf : List ℕ → Told GivenBytes → GivenBytes
 bytesOf out (accepted given) = given
 bytesOf out (refused number) = record { told = refused number; bytes = out }
 
+abbrev pub written : ℕ → List ℤ → List ℤ → ℕ → ℕ → List ℕ → PermanentSystem → GivenBytes
+written n c s constant radius out system =
+    let text = fileText n c s constant radius system in
+    let number = writeRefusal n c s text (length out) in
+    record { told = toldUnless number (length text); bytes = bytesAfter number text out }
+
 unfoldable pub writeGiven : ℕ → List ℤ → List ℤ → ℕ → ℕ → ℕ → List ℕ → GivenBytes
 writeGiven n c s constant radius system out =
-    bytesOf out
-    (next (permanentSystem system) (λ p.
-    let text = fileText n c s constant radius p in
-    let number = writeRefusal n c s text (length out) in
-    accepted (record { told = toldUnless number (length text); bytes = bytesAfter number text out })))
+    bytesOf out (next (permanentSystem system) (λ p. accepted (written n c s constant radius out p)))
 
 -- the answer, how many bytes were written, and the output as the call returns
 pub record LeavesBytes (given : GivenBytes) (out : List ℕ) (before number after : ℕ) : Type 0 where
