@@ -29,27 +29,36 @@ systemSaid word =
     (cond (sameWord word (systemName Zero)) (accepted Zero)
     (cond (sameWord word (systemName Mean)) (accepted Mean) (refused 20)))
 
--- each looks at the whole file, and the first that applies is answered
-unfoldable pub fileRefusal : List ℕ → ℕ → ℕ → ℕ
-fileRefusal text c s =
+-- 17, 18, 19 and 20: each looks at the whole file, and the first that applies is answered
+unfoldable pub fileRefusal : List ℕ → ℕ
+fileRefusal text =
     firstOf (cond (formed text) 0 17)
     (firstOf (cond (repeated (dataOf (worded text))) 18 0)
-    (firstOf (cond (isDegree (degreeOf (worded text)) && allInRange (dataOf (worded text))) 0 19)
-    (firstOf (toldNumber (systemSaid (systemWord (worded text)))) (cond (shapedBy (degreeOf (worded text)) c s) 0 1))))
+    (firstOf (cond (isDegree (degreeOf (worded text)) && allInRange (dataOf (worded text))) 0 19) (toldNumber (systemSaid (systemWord (worded text))))))
+
+-- then 1: lists that do not fit the file's degree
+unfoldable pub readRefusal : List ℕ → ℕ → ℕ → ℕ
+readRefusal text c s = firstOf (fileRefusal text) (cond (shapedBy (degreeOf (worded text)) c s) 0 1)
 
 -- a list of zeros with each line's count in its place
-unfoldable pub fileC : List ℕ → List ℤ
-fileC text = filled cIn (dataOf (worded text)) (replicate (size (degreeOf (worded text))) (pos 0))
+unfoldable pub fileList : (Line → ℤ) → List ℕ → List ℤ
+fileList count text = filled count (dataOf (worded text)) (replicate (size (degreeOf (worded text))) (pos 0))
 
-unfoldable pub fileS : List ℕ → List ℤ
-fileS text = filled sIn (dataOf (worded text)) (replicate (size (degreeOf (worded text))) (pos 0))
-
-unfoldable pub fileHead : List ℕ → Told FileHead
-fileHead text =
+-- what a file says beside its coefficients
+unfoldable pub headSaid : List ℕ → Told FileHead
+headSaid text =
     next (systemSaid (systemWord (worded text)))
     (λ system. accepted (record { degree = degreeOf (worded text); constant = constantOf (worded text); radius = radiusOf (worded text); system = system }))
 
--- what a call answers, and every entry of both lists afterwards
+-- ---- The calls
+-- the head, or the number that refuses
+unfoldable pub toldHead : ℕ → List ℕ → Told FileHead
+toldHead number text = cond (eqb number 0) (headSaid text) (refused number)
+
+abbrev pub fileHead : List ℕ → Told FileHead
+fileHead text = toldHead (fileRefusal text) text
+
+-- what reading answers, and every entry of both lists afterwards
 pub record FileRead : Type 0 where
   pub head : Told FileHead
   pub c : List ℤ
@@ -57,6 +66,9 @@ pub record FileRead : Type 0 where
 
 unfoldable pub readFile : List ℕ → List ℤ → List ℤ → FileRead
 readFile text c s =
-    cond (eqb (fileRefusal text (length c) (length s)) 0)
-    (record { head = fileHead text; c = fileC text; s = fileS text })
-    (record { head = refused (fileRefusal text (length c) (length s)); c = c; s = s })
+    let number = readRefusal text (length c) (length s) in
+    record {
+      head = toldHead number text;
+      c = cond (eqb number 0) (fileList cIn text) c;
+      s = cond (eqb number 0) (fileList sIn text) s;
+    }
