@@ -24,14 +24,14 @@ const NO_SUCH_CHOICE: u32 = 100;
 
 const MAJOR: u32 = 4;
 
-const MINOR: u32 = 1;
+const MINOR: u32 = 2;
 
 const PATCH: u32 = 0;
 
 // The version as one number, which SURFGIMLET_VERSION of the header equals.
 #[no_mangle]
 pub extern "C" fn surfgimlet_version() -> u32
-    ensures { λ r. ⌜ r ≡ versionNumber 4 1 0 ⌝ }
+    ensures { λ r. ⌜ r ≡ versionNumber 4 2 0 ⌝ }
 {
     1000000 * MAJOR + 1000 * MINOR + PATCH
 }

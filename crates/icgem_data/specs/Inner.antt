@@ -1,0 +1,49 @@
+-- What the functions that read coefficient lines say to one another and to their callers.
+use mathlib.Core.Bool.{Bool, true, _&&_}
+use mathlib.Core.List.{List}
+use mathlib.Core.Path.{_≡_}
+use Prim.Native.Nat.{ℕ, suc, _≤_, _<_}
+use lib.Dec.{leb}
+use lib.IntN.{ℤ}
+use lib.ListN.{length, drop}
+use Rattle.field.specs.Field.{place}
+use Rattle.limits.specs.Limits.{isEntry}
+use Rattle.icgem_decimal.specs.Decimal.{isWhole, isDecimal, valueOf, inUnits}
+use Rattle.icgem_file.specs.Header.{Line, wordAt}
+use Rattle.icgem_file.specs.Data.{degreeIn, orderIn, cIn, sIn, lineFormed}
+use Rattle.icgem_words.specs.Inner.{part}
+use Rattle.icgem_words.specs.Words.{words}
+
+-- ---- Words
+-- a part of a line is its word k, or empty at the line's end where there is none, and the words after it stand behind it
+pub record WordIs (line : List ℕ) (k at from to : ℕ) : Type 0 where
+  pub low : at ≤ from
+  pub ordered : from ≤ to
+  pub within : to ≤ length line
+  pub word : wordAt k (words line) ≡ part from to line
+  pub rest : words (drop to line) ≡ drop (suc k) (words line)
+
+-- the first five, one after the other
+pub record FiveWords (line : List ℕ) (from to from1 to1 from2 to2 from3 to3 from4 to4 : ℕ) : Type 0 where
+  pub word0 : WordIs line 0 0 from to
+  pub word1 : WordIs line 1 to from1 to1
+  pub word2 : WordIs line 2 to1 from2 to2
+  pub word3 : WordIs line 3 to2 from3 to3
+  pub word4 : WordIs line 4 to3 from4 to4
+
+-- ---- Numbers
+-- a word's decimal in counts, where the word is one and its count an entry
+pub record CountTaken (word : List ℕ) (ok inside : Bool) (count : ℤ) : Type 0 where
+  pub ok-is : ok ≡ isDecimal word
+  pub inside-is : ok ≡ true → inside ≡ isEntry (inUnits 15 word)
+  pub count-is : ok ≡ true → inside ≡ true → count ≡ inUnits 15 word
+
+-- where a degree and an order stand in the lists, or past every list where the degree is above 60
+pub record Stands (degree order at : ℕ) : Type 0 where
+  pub here : degree ≤ 60 → at ≡ place degree order
+  pub past : 60 < degree → 1891 ≤ at
+
+-- an order up to its degree, and a degree up to the file's, of any length
+pub record PlaceTaken (degree order most : List ℕ) (ok : Bool) (at : ℕ) : Type 0 where
+  pub ok-is : ok ≡ ((isWhole degree && isWhole order) && (leb (valueOf order) (valueOf degree) && leb (valueOf degree) (valueOf most)))
+  pub stands : ok ≡ true → Stands (valueOf degree) (valueOf order) at
