@@ -1,9 +1,9 @@
 -- What the functions that read coefficient lines say to one another and to their callers.
-use mathlib.Core.Bool.{Bool, true, _&&_}
+use mathlib.Core.Bool.{Bool, true, false, _&&_, _||_}
 use mathlib.Core.List.{List}
 use mathlib.Core.Path.{_≡_}
 use Prim.Native.Nat.{ℕ, suc, _≤_, _<_}
-use lib.Dec.{leb}
+use lib.Dec.{eqb, leb}
 use lib.IntN.{ℤ}
 use lib.ListN.{length, drop}
 use Rattle.field.specs.Field.{place}
@@ -43,7 +43,36 @@ pub record Stands (degree order at : ℕ) : Type 0 where
   pub here : degree ≤ 60 → at ≡ place degree order
   pub past : 60 < degree → 1891 ≤ at
 
+-- the same of numbers as the machine holds them
+pub record StandsHeld (over : Bool) (degree order at : ℕ) : Type 0 where
+  pub here : over ≡ false → degree ≤ 60 → at ≡ place degree order
+  pub over-past : over ≡ true → 1891 ≤ at
+  pub past : 60 < degree → 1891 ≤ at
+
 -- an order up to its degree, and a degree up to the file's, of any length
 pub record PlaceTaken (degree order most : List ℕ) (ok : Bool) (at : ℕ) : Type 0 where
   pub ok-is : ok ≡ ((isWhole degree && isWhole order) && (leb (valueOf order) (valueOf degree) && leb (valueOf degree) (valueOf most)))
   pub stands : ok ≡ true → Stands (valueOf degree) (valueOf order) at
+
+-- the four numbers of a line
+pub record NumbersTaken (degree order c s most : List ℕ) (ok inside : Bool) (at : ℕ) (c′ s′ : ℤ) : Type 0 where
+  pub ok-is : ok ≡ ((isWhole degree && isWhole order) && ((isDecimal c && isDecimal s)
+      && (leb (valueOf order) (valueOf degree) && leb (valueOf degree) (valueOf most))))
+  pub stands : ok ≡ true → Stands (valueOf degree) (valueOf order) at
+  pub inside-is : ok ≡ true → inside ≡ (isEntry (inUnits 15 c) && isEntry (inUnits 15 s))
+  pub c-is : ok ≡ true → inside ≡ true → c′ ≡ inUnits 15 c
+  pub s-is : ok ≡ true → inside ≡ true → s′ ≡ inUnits 15 s
+
+-- ---- Lines
+-- 0, 2 or 4 columns
+abbrev pub paired : ℕ → Bool
+paired n = eqb n 0 || (eqb n 2 || eqb n 4)
+
+-- a line of a file of degree n, where it is one: its place, its counts where both are in range, and its least length
+pub record LineTaken (n : ℕ) (line : List ℕ) (ok inside : Bool) (at : ℕ) (c s : ℤ) : Type 0 where
+  pub ok-is : ok ≡ lineFormed n (words line)
+  pub long : ok ≡ true → 7 ≤ length line
+  pub stands : ok ≡ true → Stands (degreeIn (words line)) (orderIn (words line)) at
+  pub inside-is : ok ≡ true → inside ≡ (isEntry (cIn (words line)) && isEntry (sIn (words line)))
+  pub c-is : ok ≡ true → inside ≡ true → c ≡ cIn (words line)
+  pub s-is : ok ≡ true → inside ≡ true → s ≡ sIn (words line)

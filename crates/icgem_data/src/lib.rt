@@ -1,13 +1,15 @@
 // The coefficient lines of a gravity field file (document 02, T-10), read in one pass.
 ghost use mathlib.Core.Path.{_≡_};
-ghost use mathlib.Core.Bool.{true};
+ghost use mathlib.Core.Bool.{true, false, _&&_};
 ghost use Prim.Native.Nat.{_^_, _≤_};
-ghost use lib.ListN.{length};
+ghost use lib.ListN.{length, drop};
 ghost use Rattle.whole.specs.Nearest.{signed};
 ghost use Rattle.field.specs.Field.{place};
-ghost use Rattle.icgem_decimal.specs.Decimal.{isWhole};
+ghost use Rattle.icgem_decimal.specs.Decimal.{isWhole, valueOf};
+ghost use Rattle.icgem_names.specs.Names.{gfc};
 ghost use Rattle.icgem_words.specs.Inner.{part};
-ghost use Rattle.icgem_data.specs.Inner.{FiveWords, CountTaken, PlaceTaken};
+ghost use Rattle.icgem_words.specs.Words.{words, sameWord};
+ghost use Rattle.icgem_data.specs.Inner.{FiveWords, CountTaken, StandsHeld, PlaceTaken, NumbersTaken, paired, LineTaken};
 use icgem_words::Span;
 
 // The first five words of a line.
@@ -87,4 +89,107 @@ fn index_of(degree: usize, order: usize) -> usize
     ensures { λ r. ⌜ r ≡ place degree order ⌝ }
 {
     degree * (degree + 1) / 2 + order
+}
+
+// The same of a degree of any size: past the entries of degree 60 where it is above that.
+fn index_past(over: bool, degree: u64, order: u64) -> usize
+    requires { ⌜ (over ≡ false → order ≤ degree) ⌝ }
+    ensures { λ r. ⌜ StandsHeld over degree order r ⌝ }
+{
+    if over | (60 < degree) {
+        1891
+    } else {
+        index_of(degree as usize, order as usize)
+    }
+}
+
+struct Place {
+    ok: bool,
+    at: usize,
+}
+
+fn place_of(degree: &[u8], order: &[u8], most: &[u8]) -> Place
+    requires { ⌜ isWhole (now most) ≡ true ⌝ }
+    ensures { λ r. ⌜ PlaceTaken (now (degree .entry)) (now (order .entry)) (now (most .entry)) (r .ok) (r .at) ⌝ }
+{
+    let l = icgem_decimal::whole_number(degree);
+    let m = icgem_decimal::whole_number(order);
+    if l.ok & m.ok {
+        if icgem_decimal::at_most(order, degree) & icgem_decimal::at_most(degree, most) {
+            return Place {
+                ok: true,
+                at: index_past(l.over, l.value, m.value),
+            };
+        }
+    }
+    Place {
+        ok: false,
+        at: 0,
+    }
+}
+
+// A coefficient line: whether it is one, whether both its counts are entries, where they stand, and they.
+pub struct Coefficients {
+    pub ok: bool,
+    pub inside: bool,
+    pub place: usize,
+    pub c: i64,
+    pub s: i64,
+}
+
+fn numbers_of(degree: &[u8], order: &[u8], c: &[u8], s: &[u8], most: &[u8]) -> Coefficients
+    requires { ⌜ length (now c) ≤ 131072 ⌝ }
+    requires { ⌜ length (now s) ≤ 131072 ⌝ }
+    requires { ⌜ isWhole (now most) ≡ true ⌝ }
+    ensures { λ r. ⌜ NumbersTaken (now (degree .entry)) (now (order .entry)) (now (c .entry)) (now (s .entry)) (now (most .entry)) (r .ok) (r .inside) (r .place) (r .c) (r .s) ⌝ }
+{
+    let p = place_of(degree, order, most);
+    let x = count_of(c);
+    let y = count_of(s);
+    Coefficients {
+        ok: p.ok & (x.ok & y.ok),
+        inside: x.inside & y.inside,
+        place: p.at,
+        c: x.count,
+        s: y.count,
+    }
+}
+
+// Whether a line's first word is "gfc" and 0, 2 or 4 error columns stand behind its fifth.
+fn is_headed(line: &[u8], key: Span, after: usize) -> bool
+    requires { ⌜ key .from ≤ key .to ⌝ }
+    requires { ⌜ key .to ≤ length (now line) ⌝ }
+    requires { ⌜ after ≤ length (now line) ⌝ }
+    ensures { λ r. ⌜ r ≡ (sameWord (part (key .from) (key .to) (now (line .entry))) gfc && paired (length (words (drop after (now (line .entry)))))) ⌝ }
+{
+    if icgem_words::same_word(word_of(line, key), b"gfc") {
+        let columns = icgem_words::count_words(line, after);
+        (columns == 0) | ((columns == 2) | (columns == 4))
+    } else {
+        false
+    }
+}
+
+pub fn line_of(line: &[u8], degree: &[u8]) -> Coefficients
+    requires { ⌜ length (now line) ≤ 131072 ⌝ }
+    requires { ⌜ isWhole (now degree) ≡ true ⌝ }
+    ensures { λ r. ⌜ LineTaken (valueOf (now (degree .entry))) (now (line .entry)) (r .ok) (r .inside) (r .place) (r .c) (r .s) ⌝ }
+{
+    let w = five_words(line);
+    if is_headed(line, w.key, w.s.to) {
+        return numbers_of(
+            word_of(line, w.degree),
+            word_of(line, w.order),
+            word_of(line, w.c),
+            word_of(line, w.s),
+            degree,
+        );
+    }
+    Coefficients {
+        ok: false,
+        inside: false,
+        place: 0,
+        c: 0,
+        s: 0,
+    }
 }
