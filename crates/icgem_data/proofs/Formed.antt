@@ -57,7 +57,7 @@ decimal-some (b ∷ word) e = omega arith
 there : (k : ℕ) (l : Line) → 0 < length (wordAt k l) → k < length l
 there k l h = either (leb (length l) k) (λ e. absurd (omega (arith, ap length (List·getD-eq-default l [] (leb-true (length l) k e))))) (leb-false (length l) k)
 
-part-length : (line : List ℕ) (from to : ℕ) → to ≤ length line → length (part from to line) ≡ to - from
+pub part-length : (line : List ℕ) (from to : ℕ) → to ≤ length line → length (part from to line) ≡ to - from
 part-length line from to h = length-take-le (to - from) (drop from line) (omega (arith, length-drop from line))
 
 pub word-short : (line word : List ℕ) {k at from to n : ℕ} → WordIs line k at from to → length line ≤ n → word ≡ part from to line → length word ≤ n

@@ -1,18 +1,18 @@
 -- What the functions that read coefficient lines say to one another and to their callers.
 use mathlib.Core.Bool.{Bool, true, false, _&&_, _||_}
-use mathlib.Core.List.{List}
+use mathlib.Core.List.{List, map}
 use mathlib.Core.Path.{_≡_}
-use Prim.Native.Nat.{ℕ, suc, _≤_, _<_}
+use Prim.Native.Nat.{ℕ, suc, _+_, _*_, _≤_, _<_}
 use lib.Dec.{eqb, leb}
 use lib.IntN.{ℤ}
-use lib.ListN.{length, drop}
+use lib.ListN.{length, getD, take, drop, set}
 use Rattle.field.specs.Field.{place}
 use Rattle.limits.specs.Limits.{isEntry}
 use Rattle.icgem_decimal.specs.Decimal.{isWhole, isDecimal, valueOf, inUnits}
 use Rattle.icgem_file.specs.Header.{Line, wordAt}
-use Rattle.icgem_file.specs.Data.{degreeIn, orderIn, cIn, sIn, lineFormed}
+use Rattle.icgem_file.specs.Data.{degreeIn, orderIn, cIn, sIn, lineFormed, dataFormed, allInRange, filled, lineAt}
 use Rattle.icgem_words.specs.Inner.{part}
-use Rattle.icgem_words.specs.Words.{words}
+use Rattle.icgem_words.specs.Words.{words, worded}
 
 -- ---- Words
 -- a part of a line is its word k, or empty at the line's end where there is none, and the words after it stand behind it
@@ -76,3 +76,35 @@ pub record LineTaken (n : ℕ) (line : List ℕ) (ok inside : Bool) (at : ℕ) (
   pub inside-is : ok ≡ true → inside ≡ (isEntry (cIn (words line)) && isEntry (sIn (words line)))
   pub c-is : ok ≡ true → inside ≡ true → c ≡ cIn (words line)
   pub s-is : ok ≡ true → inside ≡ true → s ≡ sIn (words line)
+
+-- a line that has a word, kept where it is formed: its start behind the others', and its counts in their place while all are in range
+pub record LineKept (n : ℕ) (line : List ℕ) (at : ℕ) (inside : Bool) (count : ℕ) (starts : List ℕ) (c s : List ℤ)
+    (ok′ inside′ : Bool) (count′ : ℕ) (starts′ : List ℕ) (c′ s′ : List ℤ) : Type 0 where
+  pub ok-is : ok′ ≡ lineFormed n (words line)
+  pub long : ok′ ≡ true → 7 ≤ length line
+  pub inside-is : ok′ ≡ true → inside′ ≡ (inside && (isEntry (cIn (words line)) && isEntry (sIn (words line))))
+  pub count-is : ok′ ≡ true → count′ ≡ count + 1
+  pub starts-is : ok′ ≡ true → starts′ ≡ set starts count at
+  pub c-is : ok′ ≡ true → inside′ ≡ true → c′ ≡ set c (place (degreeIn (words line)) (orderIn (words line))) (cIn (words line))
+  pub s-is : ok′ ≡ true → inside′ ≡ true → s′ ≡ set s (place (degreeIn (words line)) (orderIn (words line))) (sIn (words line))
+  pub starts-room : length starts′ ≡ length starts
+  pub c-room : length c′ ≡ length c
+  pub s-room : length s′ ≡ length s
+
+-- ---- The pass
+-- lines of a text, by their starts, with what they put into two lists where all their counts are in range
+pub record LinesKept (text : List ℕ) (ls : List Line) (inside : Bool) (count : ℕ) (starts : List ℕ) (c s c′ s′ : List ℤ) : Type 0 where
+  pub few : 8 * count ≤ length text + 1
+  pub lines-are : map (lineAt text) (take count starts) ≡ ls
+  pub within : (k : ℕ) → k < count → getD starts k 0 ≤ length text
+  pub inside-is : inside ≡ allInRange ls
+  pub c-is : inside ≡ true → c′ ≡ filled cIn ls c
+  pub s-is : inside ≡ true → s′ ≡ filled sIn ls s
+
+-- the lines from a place on, where all are coefficient lines of a file of degree n
+pub record LinesRead (text : List ℕ) (from n : ℕ) (starts : List ℕ) (c s : List ℤ) (ok inside : Bool) (count : ℕ) (starts′ : List ℕ) (c′ s′ : List ℤ) : Type 0 where
+  pub ok-is : ok ≡ dataFormed n (worded (drop from text))
+  pub kept : ok ≡ true → LinesKept text (worded (drop from text)) inside count starts′ c s c′ s′
+  pub starts-room : length starts′ ≡ length starts
+  pub c-room : length c′ ≡ length c
+  pub s-room : length s′ ≡ length s

@@ -1,15 +1,16 @@
 // The coefficient lines of a gravity field file (document 02, T-10), read in one pass.
 ghost use mathlib.Core.Path.{_≡_};
 ghost use mathlib.Core.Bool.{true, false, _&&_};
-ghost use Prim.Native.Nat.{_^_, _≤_};
-ghost use lib.ListN.{length, drop};
+ghost use Prim.Native.Nat.{_^_, _≤_, _<_};
+ghost use lib.Dec.{ltb};
+ghost use lib.ListN.{length, drop, set};
 ghost use Rattle.whole.specs.Nearest.{signed};
 ghost use Rattle.field.specs.Field.{place};
 ghost use Rattle.icgem_decimal.specs.Decimal.{isWhole, valueOf};
 ghost use Rattle.icgem_names.specs.Names.{gfc};
 ghost use Rattle.icgem_words.specs.Inner.{part};
 ghost use Rattle.icgem_words.specs.Words.{words, sameWord};
-ghost use Rattle.icgem_data.specs.Inner.{FiveWords, CountTaken, StandsHeld, PlaceTaken, NumbersTaken, paired, LineTaken};
+ghost use Rattle.icgem_data.specs.Inner.{FiveWords, CountTaken, StandsHeld, PlaceTaken, NumbersTaken, paired, LineTaken, LineKept, LinesRead};
 use icgem_words::Span;
 
 // The first five words of a line.
@@ -122,10 +123,7 @@ fn place_of(degree: &[u8], order: &[u8], most: &[u8]) -> Place
             };
         }
     }
-    Place {
-        ok: false,
-        at: 0,
-    }
+    Place { ok: false, at: 0 }
 }
 
 // A coefficient line: whether it is one, whether both its counts are entries, where they stand, and they.
@@ -192,4 +190,105 @@ pub fn line_of(line: &[u8], degree: &[u8]) -> Coefficients
         c: 0,
         s: 0,
     }
+}
+
+// Sets an entry; one past the list's end is none.
+fn store(list: &mut [i64], at: usize, value: i64)
+    ensures { λ _. ⌜ now (list .exit) ≡ set (now (list .entry)) at value ⌝ }
+{
+    if at < list.len() {
+        list[at] = value;
+    }
+}
+
+// The lines of a pass: whether all are coefficient lines, whether all their counts are entries, and how many they are.
+pub struct Lines {
+    pub ok: bool,
+    pub inside: bool,
+    pub count: usize,
+}
+
+// One line more, which starts at a place of its text.
+fn keep_line(
+    line: &[u8],
+    at: usize,
+    degree: &[u8],
+    before: Lines,
+    starts: &mut [u32],
+    c: &mut [i64],
+    s: &mut [i64],
+) -> Lines
+    requires { ⌜ length (now line) ≤ 131072 ⌝ ∗ ⌜ at ≤ 131072 ⌝ ∗ ⌜ isWhole (now degree) ≡ true ⌝ }
+    requires { ⌜ before .count < length (now starts) ⌝ ∗ ⌜ length (now c) ≤ 1891 ⌝ ∗ ⌜ length (now s) ≤ 1891 ⌝ }
+    ensures { λ r. ⌜ LineKept (valueOf (now (degree .entry))) (now (line .entry)) at (before .inside) (before .count) (now (starts .entry)) (now (c .entry)) (now (s .entry)) (r .ok) (r .inside) (r .count) (now (starts .exit)) (now (c .exit)) (now (s .exit)) ⌝ }
+{
+    let k = line_of(line, degree);
+    let count = before.count;
+    if k.ok {
+        starts[count] = at as u32;
+        if before.inside & k.inside {
+            store(c, k.place, k.c);
+            store(s, k.place, k.s);
+            return Lines {
+                ok: true,
+                inside: true,
+                count: count + 1,
+            };
+        }
+        return Lines {
+            ok: true,
+            inside: false,
+            count: count + 1,
+        };
+    }
+    Lines {
+        ok: false,
+        inside: false,
+        count: 0,
+    }
+}
+
+fn is_worded(line: &[u8]) -> bool
+    ensures { λ r. ⌜ r ≡ ltb 0 (length (words (now (line .entry)))) ⌝ }
+{
+    let word = icgem_words::next_word(line, 0);
+    word.from < word.to
+}
+
+// Reads the coefficient lines from a place on: where each starts, and its counts into the two lists of a field. A formed line has
+// five words, the first of three bytes, and a line end, so eight bytes.
+pub fn read_lines(
+    text: &[u8],
+    from: usize,
+    degree: &[u8],
+    starts: &mut [u32],
+    c: &mut [i64],
+    s: &mut [i64],
+) -> Lines
+    requires { ⌜ length (now text) ≤ 131072 ⌝ ∗ ⌜ from ≤ length (now text) ⌝ ∗ ⌜ isWhole (now degree) ≡ true ⌝ }
+    requires { ⌜ 16384 ≤ length (now starts) ⌝ ∗ ⌜ length (now c) ≤ 1891 ⌝ ∗ ⌜ length (now s) ≤ 1891 ⌝ }
+    ensures { λ r. ⌜ LinesRead (now (text .entry)) from (valueOf (now (degree .entry))) (now (starts .entry)) (now (c .entry)) (now (s .entry)) (r .ok) (r .inside) (r .count) (now (starts .exit)) (now (c .exit)) (now (s .exit)) ⌝ }
+{
+    let mut lines = Lines {
+        ok: true,
+        inside: true,
+        count: 0,
+    };
+    let mut at = from;
+    while at < text.len() {
+        let end = icgem_words::line_end(text, at);
+        let line = &text[at..end];
+        let next = end + 1;
+        if is_worded(line) {
+            lines = keep_line(line, at, degree, lines, starts, c, s);
+            if lines.ok {
+                at = next;
+            } else {
+                return lines;
+            }
+        } else {
+            at = next;
+        }
+    }
+    lines
 }

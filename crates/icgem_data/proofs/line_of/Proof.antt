@@ -8,9 +8,10 @@ use Rattle.icgem_data.proofs.line_of.Tie as tie
 numbers-of-requires : tie.Need-numbers-of-requires
 numbers-of-requires c κs =
     let w = c .before .before .before .before .before .before in
-    let s = w .before .before .before in
-    (word-short (s .args .line .now) (c .before .word-of3 .result .now) (w .five-words .ensures .word3) (s .pre .0) (c .before .word-of3 .ensures),
-    (word-short (s .args .line .now) (c .word-of4 .result .now) (w .five-words .ensures .word4) (s .pre .0) (c .word-of4 .ensures), s .pre .1))
+    let s = w .before .before .before in (
+      word-short (s .args .line .now) (c .before .word-of3 .result .now) (w .five-words .ensures .word3) (s .pre .0) (c .before .word-of3 .ensures),
+      (word-short (s .args .line .now) (c .word-of4 .result .now) (w .five-words .ensures .word4) (s .pre .0) (c .word-of4 .ensures), s .pre .1),
+    )
 
 returns : tie.Need-returns
 returns c =

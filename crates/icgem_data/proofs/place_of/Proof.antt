@@ -8,9 +8,10 @@ use Rattle.icgem_data.proofs.place_of.Tie as tie
 
 at-most-requires : tie.Need-at-most-requires
 at-most-requires c κs =
-    let n = c .before .before .before in
-    (whole-order (n .before .whole-number .ensures) (n .whole-number2 .ensures) (c .if1 .taken),
-    whole-degree (n .before .whole-number .ensures) (n .whole-number2 .ensures) (c .if1 .taken))
+    let n = c .before .before .before in (
+      whole-order (n .before .whole-number .ensures) (n .whole-number2 .ensures) (c .if1 .taken),
+      whole-degree (n .before .whole-number .ensures) (n .whole-number2 .ensures) (c .if1 .taken),
+    )
 
 at-most-requires-2 : tie.Need-at-most-requires-2
 at-most-requires-2 c κs =
