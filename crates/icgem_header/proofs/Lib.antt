@@ -1,0 +1,5 @@
+pub mod Words
+pub mod Lines
+pub mod Known
+pub mod Constants
+pub mod Head
