@@ -29,7 +29,11 @@ fn put_sign(out: &mut [u8], at: usize, negative: bool) -> usize
     requires { ⌜ at + length (sign negative) ≤ length (now out) ⌝ }
     ensures { λ r. ⌜ Put (now (out .entry)) at (sign negative) (now (out .exit)) r ⌝ }
 {
-    if negative { text::put_byte(out, at, b'-') } else { at }
+    if negative {
+        text::put_byte(out, at, b'-')
+    } else {
+        at
+    }
 }
 
 // Puts n divided by the scale, 10^decimals, with that many decimals.

@@ -45,7 +45,11 @@ fn degree_of(word: &[u8]) -> u32
     ensures { λ r. ⌜ DegreeRead (now (word .entry)) r ⌝ }
 {
     let number = icgem_decimal::whole_number(word);
-    if number.over | (60 < number.value) { 61 } else { number.value as u32 }
+    if number.over | (60 < number.value) {
+        61
+    } else {
+        number.value as u32
+    }
 }
 
 // Copies as many entries as the list has.

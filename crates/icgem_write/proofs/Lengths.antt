@@ -81,10 +81,18 @@ place-length n m c s h k hc hs =
     let o = padded 3 (decimal m) in
     let x = padded 22 (coefficient c) in
     let y = padded 22 (coefficient s) in
-    omega
-    (arith, length-append (names.gfc ++ d ++ o ++ x ++ y) (ascii "\n"), length-append (names.gfc ++ d ++ o ++ x) y, length-append (names.gfc ++ d ++ o) x, length-append (names.gfc ++ d) o,
-    length-append names.gfc d, padded-length 3 (decimal n) (order-most n h), padded-length 3 (decimal m) (order-most m (omega arith)),
-    padded-length 22 (coefficient c) (coefficient-most c hc), padded-length 22 (coefficient s) (coefficient-most s hs))
+    omega (
+      arith,
+      length-append (names.gfc ++ d ++ o ++ x ++ y) (ascii "\n"),
+      length-append (names.gfc ++ d ++ o ++ x) y,
+      length-append (names.gfc ++ d ++ o) x,
+      length-append (names.gfc ++ d) o,
+      length-append names.gfc d,
+      padded-length 3 (decimal n) (order-most n h),
+      padded-length 3 (decimal m) (order-most m (omega arith)),
+      padded-length 22 (coefficient c) (coefficient-most c hc),
+      padded-length 22 (coefficient s) (coefficient-most s hs),
+    )
 
 -- the lengths of a run, one after the other
 joined-length : (f : ℕ → List ℕ) (total : ℕ → ℕ) → total 0 ≡ 0 → (n : ℕ) → ((k : ℕ) → k < n → total k + length (f k) ≡ total (k + 1)) → length (joined f n) ≡ total n

@@ -110,13 +110,7 @@ fn put_closing(out: &mut [u8], at: usize) -> usize
 }
 
 // Puts the nine lines of the header.
-fn put_header(
-    out: &mut [u8],
-    n: u32,
-    constant: u64,
-    radius: u64,
-    system: PermanentSystem,
-) -> usize
+fn put_header(out: &mut [u8], n: u32, constant: u64, radius: u64, system: PermanentSystem) -> usize
     requires { ⌜ 54 * 9 ≤ length (now out) ⌝ }
     ensures { λ r. ⌜ PutLines 9 (now (out .entry)) 0 (header n constant radius system) (now (out .exit)) r ⌝ }
 {

@@ -71,9 +71,10 @@ shared-slice-copy-out-put-place-2 c = inside (c .before .before .before .before 
 put-place-requires : tie.Need-put-place-requires Inv-loop μ-loop
 put-place-requires c κs =
     let s = c .before .before .before .before .before .before in
-    let m = c .before .before .before .before .loop .m in
-    (omega (arith, c .before .before .before .before .loop .inv .1),
-    (s .pre .1 .0, (omega arith, (entry-small (s .pre .1 .1 .0) (s .args .n * (s .args .n + 1) / 2 + m), entry-small (s .pre .1 .1 .1) (s .args .n * (s .args .n + 1) / 2 + m)))))
+    let m = c .before .before .before .before .loop .m in (
+      omega (arith, c .before .before .before .before .loop .inv .1),
+      (s .pre .1 .0, (omega arith, (entry-small (s .pre .1 .1 .0) (s .args .n * (s .args .n + 1) / 2 + m), entry-small (s .pre .1 .1 .1) (s .args .n * (s .args .n + 1) / 2 + m)))),
+    )
 
 add-m : tie.Need-add-m Inv-loop μ-loop
 add-m c = search needs
@@ -84,10 +85,12 @@ loop-less c = search needs
 loop-again : tie.Need-loop-again Inv-loop μ-loop
 loop-again c =
     let s = c .before .before .before .before .before .before .before .before .before in
-    let m = c .before .before .before .before .before .before .before .loop .m in
-    (omega arith, more-lines _ m (c .before .before .before .before .before .before .before .loop .inv .1)
-    (rw (entry-same (s .pre .1 .1 .0) (s .args .n * (s .args .n + 1) / 2 + m), entry-same (s .pre .1 .1 .1) (s .args .n * (s .args .n + 1) / 2 + m), place-is (s .args .n) m)
-    at (c .before .before .put-place .ensures)))
+    let m = c .before .before .before .before .before .before .before .loop .m in (
+      omega arith,
+      more-lines _ m (c .before .before .before .before .before .before .before .loop .inv .1)
+          (rw (entry-same (s .pre .1 .1 .0) (s .args .n * (s .args .n + 1) / 2 + m), entry-same (s .pre .1 .1 .1) (s .args .n * (s .args .n + 1) / 2 + m), place-is (s .args .n) m)
+          at (c .before .before .put-place .ensures)),
+    )
 
 same-length : tie.Need-same-length Inv-loop μ-loop
 same-length c = c .before .loop .inv .1 .same-room

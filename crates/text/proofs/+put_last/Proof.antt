@@ -37,8 +37,8 @@ module _ (t : ℕ) where
 
   put-byte-requires : lts.Need-put-byte-requires (below-measure t, own.Post, byte.Asked, byte.Learnt) (at-measure t) own.Post
   put-byte-requires c κs =
-    let a = c .before .before .before in
-    omega (arith, put-length (a .put-last .ensures), a .put-last .ensures .next-is, last-length (a .before .before .before .before .args .count - 1) (a .before .before .before .before .args .n / 10))
+      let a = c .before .before .before in
+      omega (arith, put-length (a .put-last .ensures), a .put-last .ensures .next-is, last-length (a .before .before .before .before .args .count - 1) (a .before .before .before .before .args .n / 10))
 
   returns : lts.Need-returns (below-measure t, own.Post, byte.Asked, byte.Learnt) (at-measure t) own.Post
   returns c = no-digits _ _ (c .before .before .args .count) _ (omega arith)
