@@ -1,5 +1,5 @@
 -- A coefficient line, from its parts.
-use mathlib.Core.Path.{_≡_, refl, sym, ap, ap₂, subst, _∙_}
+use mathlib.Core.Path.{_≡_, sym, ap, ap₂, subst, _∙_}
 use mathlib.Core.Bool.{Bool, true, false, _&&_, _||_}
 use mathlib.Core.List.{List, [], _∷_}
 use Prim.Native.Nat.{ℕ, _+_, _-_, _≤_, _<_}
@@ -7,7 +7,7 @@ use native.Mathlib.Omega.{arith}
 use borrow.Author.Tests.{leb-true, leb-false, eqb-true, eq-eqb, eqb-false, ne-eqb}
 use lib.Dec.{T, eqb, leb}
 use lib.IntN.{ℤ, pos}
-use lib.ListN.{length, getD, take, drop, length-drop, List·getD-eq-default}
+use lib.ListN.{length, drop, length-drop, List·getD-eq-default}
 use lib.Seq.{length-take-le}
 use Rattle.whole.proofs.Tests.{and-left, and-right}
 use Rattle.text.specs.Text.{ascii}
@@ -15,7 +15,7 @@ use Rattle.icgem_decimal.specs.Decimal.{isEmpty, isWhole, isDecimal, isExponent
 use Rattle.icgem_decimal.proofs.Tests.{either, not-so, and-false}
 use Rattle.icgem_names.specs.Names.{gfc}
 use Rattle.icgem_file.specs.Header.{Line, wordAt, keyed}
-use Rattle.icgem_file.specs.Data.{columned, lineFormed, degreeIn, orderIn}
+use Rattle.icgem_file.specs.Data.{columned, lineFormed}
 use Rattle.icgem_words.specs.Inner.{part}
 use Rattle.icgem_words.specs.Words.{pieces, words, sameWord}
 use Rattle.icgem_words.proofs.Same.{same-equal}
@@ -105,11 +105,8 @@ module _ {line : List ℕ} {f t f1 t1 f2 t2 f3 t3 f4 t4 : ℕ} (w : FiveWords li
     abbrev Both : Bool
     Both = keyed gfc (words line) && columned (words line)
 
-    whole1 : ok ≡ true → isWhole (wordAt 1 (words line)) ≡ true
-    whole1 e = and-left (isWhole (wordAt 1 (words line))) _ (and-left (isWhole (wordAt 1 (words line)) && isWhole (wordAt 2 (words line))) _ (sym (numbers .ok-is) ∙ e))
-
-    whole2 : ok ≡ true → isWhole (wordAt 2 (words line)) ≡ true
-    whole2 e = and-right (isWhole (wordAt 1 (words line))) _ (and-left (isWhole (wordAt 1 (words line)) && isWhole (wordAt 2 (words line))) _ (sym (numbers .ok-is) ∙ e))
+    wholes : ok ≡ true → (isWhole (wordAt 1 (words line)) && isWhole (wordAt 2 (words line))) ≡ true
+    wholes e = and-left (isWhole (wordAt 1 (words line)) && isWhole (wordAt 2 (words line))) _ (sym (numbers .ok-is) ∙ e)
 
     decimals : ok ≡ true → (isDecimal (wordAt 3 (words line)) && isDecimal (wordAt 4 (words line))) ≡ true
     decimals e =
@@ -139,8 +136,8 @@ module _ {line : List ℕ} {f t f1 t1 f2 t2 f3 t3 f4 t4 : ℕ} (w : FiveWords li
     unfolding ascii
     long e =
         let a = ap length (same-equal (part f t line) gfc (and-left (sameWord (part f t line) gfc) _ H)) in
-        let s1 = rw (w .word1 .word, part-length line f1 t1 (w .word1 .within)) at (whole-some (wordAt 1 (words line)) (whole1 e)) in
-        let s2 = rw (w .word2 .word, part-length line f2 t2 (w .word2 .within)) at (whole-some (wordAt 2 (words line)) (whole2 e)) in
+        let s1 = rw (w .word1 .word, part-length line f1 t1 (w .word1 .within)) at (whole-some _ (and-left (isWhole (wordAt 1 (words line))) _ (wholes e))) in
+        let s2 = rw (w .word2 .word, part-length line f2 t2 (w .word2 .within)) at (whole-some _ (and-right (isWhole (wordAt 1 (words line))) _ (wholes e))) in
         let s3 = rw (w .word3 .word, part-length line f3 t3 (w .word3 .within)) at (some3 e) in
         let s4 = rw (w .word4 .word, part-length line f4 t4 (w .word4 .within)) at (some4 e) in
         omega (arith, part-length line f t (w .word0 .within))

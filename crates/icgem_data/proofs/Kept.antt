@@ -2,24 +2,22 @@
 use mathlib.Core.Path.{_≡_, refl, sym, ap, subst, _∙_}
 use mathlib.Core.Bool.{Bool, true, false, _&&_}
 use mathlib.Core.List.{List}
-use Prim.Native.Nat.{ℕ, _+_, _*_, _/_, _^_, _≤_, _<_}
+use Prim.Native.Nat.{ℕ, _+_, _≤_, _<_}
 use native.Mathlib.Nat.{mul-le-mul}
 use native.Mathlib.Omega.{arith}
 use borrow.Author.Tests.{leb-true, leb-false}
 use lib.Dec.{T, leb}
-use lib.IntN.{ℤ, natAbs}
+use lib.IntN.{ℤ}
 use lib.ListN.{length, set, length-set}
 use lib.Seq.{set-out}
-use mir.Syntax.{w64}
-use mir.Facts.{toZ-ofZ}
 use Rattle.whole.proofs.Machine.{read}
-use Rattle.whole.proofs.Parts.{fits-abs}
 use Rattle.whole.proofs.Tests.{and-left, and-right}
 use Rattle.field.specs.Field.{place}
 use Rattle.limits.specs.Limits.{isEntry}
 use Rattle.icgem_decimal.proofs.Tests.{either}
-use Rattle.icgem_file.specs.Data.{degreeIn, orderIn, cIn, sIn}
+use Rattle.icgem_file.specs.Data.{cIn, sIn}
 use Rattle.icgem_words.specs.Words.{words}
+use Rattle.icgem_data.proofs.Numbers.{entry-read}
 use Rattle.icgem_data.specs.Inner.{Stands, LineTaken, LineKept}
 
 -- ---- an entry set at a line's place
@@ -35,12 +33,9 @@ set-stands {degree} {order} {at} h l z short =
     let g = leb-false degree 60 e in
     set-out l at z (omega (arith, h .past g)) ∙ sym (set-out l (place degree order) z (omega (arith, place-past degree order g))))
 
--- an entry is read back as it is
-pub entry-read : {x z : ℤ} → x ≡ z → isEntry z ≡ true → read x ≡ z
-entry-read {x} {z} e h = let g = leb-true (natAbs z) (2 ^ 60) h in ap read e ∙ toZ-ofZ (fits-abs w64 z (omega arith))
-
 -- ---- a line
-module _ {n : ℕ} {line : List ℕ} {ok ins : Bool} {at : ℕ} {x y : ℤ} (t : LineTaken n line ok ins at x y) (start : ℕ) (inside : Bool) (count : ℕ) (starts : List ℕ) (c s : List ℤ) where
+module _ {n : ℕ} {line : List ℕ} {ok ins : Bool} {at : ℕ} {x y : ℤ} (t : LineTaken n line ok ins at x y)
+    (start : ℕ) (inside : Bool) (count : ℕ) (starts : List ℕ) (c s : List ℤ) where
   pub kept-none : ok ≡ false → LineKept n line start inside count starts c s false false 0 starts c s
   kept-none e =
       record {

@@ -1,8 +1,8 @@
 -- The numbers of a line: counts in range, and places.
-use mathlib.Core.Path.{_≡_, refl, sym, ap₂, subst, _∙_}
+use mathlib.Core.Path.{_≡_, refl, sym, ap, ap₂, subst, _∙_}
 use mathlib.Core.Bool.{Bool, true, false, _&&_, _||_}
 use mathlib.Core.List.{List}
-use Prim.Native.Nat.{ℕ, _+_, _^_, _≤_, _<_}
+use Prim.Native.Nat.{ℕ, _^_, _≤_}
 use native.Mathlib.Omega.{arith}
 use borrow.Author.Tests.{ltb-true, ltb-false, leb-true, leb-false, le-leb, lt-leb}
 use lib.Dec.{T, ltb, leb}
@@ -16,9 +16,9 @@ use Rattle.whole.proofs.Signed.{abs-signed}
 use Rattle.whole.proofs.Tests.{and-left, and-right}
 use Rattle.field.specs.Field.{place}
 use Rattle.limits.specs.Limits.{isEntry}
-use Rattle.icgem_decimal.specs.Decimal.{isWhole, isDecimal, valueOf, inUnits, Held, WholeTaken, Taken}
+use Rattle.icgem_decimal.specs.Decimal.{isWhole, isDecimal, valueOf, inUnits, WholeTaken, Taken}
 use Rattle.icgem_decimal.proofs.Tests.{either}
-use Rattle.icgem_data.specs.Inner.{CountTaken, Stands, StandsHeld, PlaceTaken, NumbersTaken}
+use Rattle.icgem_data.specs.Inner.{CountTaken, StandsHeld, PlaceTaken, NumbersTaken}
 
 -- ---- tests
 or-false : (a b : Bool) → (a || b) ≡ false → (a ≡ false) × (b ≡ false)
@@ -57,17 +57,13 @@ module _ {word : List ℕ} {ok negative over : Bool} {size : ℕ} (t : Taken 15 
         count-is = λ k i. e ∙ sym (t .value-is k o);
       }
 
--- a count in range is read back as it is
+-- an entry is read back as it is
+pub entry-read : {x z : ℤ} → x ≡ z → isEntry z ≡ true → read x ≡ z
+entry-read {x} {z} e h = let g = leb-true (natAbs z) (2 ^ 60) h in ap read e ∙ toZ-ofZ (fits-abs w64 z (omega arith))
+
 pub count-read : {word : List ℕ} {ok inside : Bool} {count : ℤ} → CountTaken word ok inside count → CountTaken word ok inside (read count)
 count-read {word} {ok} {inside} {count} t =
-    record {
-      ok-is = t .ok-is;
-      inside-is = t .inside-is;
-      count-is = λ k i.
-          let e = t .count-is k i in
-          let h = leb-true (natAbs (inUnits 15 word)) (2 ^ 60) (sym (t .inside-is k) ∙ i) in
-          toZ-ofZ (fits-abs w64 count (rw e (omega arith))) ∙ e;
-    }
+    record { ok-is = t .ok-is; inside-is = t .inside-is; count-is = λ k i. entry-read (t .count-is k i) (sym (t .inside-is k) ∙ i) }
 
 -- ---- places
 module _ (over : Bool) (degree order : ℕ) where
@@ -137,7 +133,8 @@ module _ {degree order : List ℕ} {lok lover mok mover : Bool} {l m : ℕ} (d :
         }
 
 -- ---- the numbers of a line
-module _ {l m c s most : List ℕ} {ok ok1 ok2 in1 in2 : Bool} {at : ℕ} {x y : ℤ} (p : PlaceTaken l m most ok at) (a : CountTaken c ok1 in1 x) (b : CountTaken s ok2 in2 y) where
+module _ {l m c s most : List ℕ} {ok ok1 ok2 in1 in2 : Bool} {at : ℕ} {x y : ℤ}
+    (p : PlaceTaken l m most ok at) (a : CountTaken c ok1 in1 x) (b : CountTaken s ok2 in2 y) where
   first : (ok && (ok1 && ok2)) ≡ true → ok1 ≡ true
   first e = and-left ok1 ok2 (and-right ok (ok1 && ok2) e)
 

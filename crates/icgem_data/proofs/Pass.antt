@@ -1,16 +1,16 @@
 -- Lines passed one after the other: what their list, their starts and the two filled lists come to.
 use mathlib.Core.Path.{_≡_, refl, sym, ap, ap₂, subst, _∙_}
-use mathlib.Core.Bool.{Bool, true, false, _&&_}
-use mathlib.Core.List.{List, [], _∷_, _++_, map, append-nil, append-assoc}
-use Prim.Native.Nat.{ℕ, suc, _+_, _-_, _*_, _≤_, _<_}
+use mathlib.Core.Bool.{Bool, true, false, _&&_, and-assoc}
+use mathlib.Core.List.{List, [], _∷_, _++_, append-nil, append-assoc, map-append}
+use Prim.Native.Nat.{ℕ, _+_, _-_, _*_, _≤_, _<_}
 use native.Mathlib.Numerals.{add-one}
 use native.Mathlib.Omega.{arith}
 use borrow.Author.Tests.{ltb-true, ltb-false, eqb-true, eqb-false}
 use lib.Dec.{T, eqb, ltb}
 use lib.IntN.{ℤ}
-use lib.ListN.{length, getD, take, drop, set, length-drop}
-use lib.Seq.{take-suc-set, getD-set-same, getD-set-other, length-take-le}
-use Rattle.whole.proofs.Tests.{and-left, and-right}
+use lib.ListN.{length, getD, take, drop, set}
+use lib.Seq.{take-suc-set, getD-set-same, getD-set-other}
+use Rattle.whole.proofs.Tests.{and-left}
 use Rattle.field.specs.Field.{place}
 use Rattle.limits.specs.Limits.{isEntry}
 use Rattle.icgem_decimal.proofs.Tests.{either, and-false}
@@ -23,21 +23,17 @@ use Rattle.icgem_data.proofs.Formed.{part-length}
 use Rattle.icgem_data.specs.Inner.{LineKept, LinesKept, LinesRead}
 
 -- ---- lines joined
-and-assoc : (a b c : Bool) → (a && (b && c)) ≡ ((a && b) && c)
-and-assoc true b c = refl
-and-assoc false b c = refl
-
 pub formed-append : (n : ℕ) (a b : List Line) → dataFormed n (a ++ b) ≡ (dataFormed n a && dataFormed n b)
 unfolding dataFormed
 formed-append n [] b = refl
-formed-append n (line ∷ a) b = ap (λ (t : Bool). lineFormed n line && t) (formed-append n a b) ∙ and-assoc (lineFormed n line) (dataFormed n a) (dataFormed n b)
+formed-append n (line ∷ a) b = ap (λ (t : Bool). lineFormed n line && t) (formed-append n a b) ∙ sym (and-assoc (lineFormed n line) (dataFormed n a) (dataFormed n b))
 
 pub range-append : (a b : List Line) → allInRange (a ++ b) ≡ (allInRange a && allInRange b)
 unfolding allInRange
 range-append [] b = refl
 range-append (line ∷ a) b =
     let r = isEntry (cIn line) && isEntry (sIn line) in
-    ap (λ (t : Bool). r && t) (range-append a b) ∙ and-assoc r (allInRange a) (allInRange b)
+    ap (λ (t : Bool). r && t) (range-append a b) ∙ sym (and-assoc r (allInRange a) (allInRange b))
 
 pub filled-append : (count : Line → ℤ) (a b : List Line) (l : List ℤ) → filled count (a ++ b) l ≡ filled count b (filled count a l)
 unfolding filled
@@ -56,10 +52,6 @@ filled-more : (count : Line → ℤ) (a : List Line) (line : Line) (l : List ℤ
     → y ≡ set x (place (degreeIn line) (orderIn line)) (count line) → y ≡ filled count (a ++ (line ∷ [])) l
 unfolding filled
 filled-more count a line l e g = g ∙ ap (λ (v : List ℤ). set v (place (degreeIn line) (orderIn line)) (count line)) e ∙ sym (filled-append count a (line ∷ []) l)
-
-map-append : {A B : Type 0} (f : A → B) (a b : List A) → map f (a ++ b) ≡ map f a ++ map f b
-map-append f [] b = refl
-map-append {B = B} f (x ∷ a) b = ap (λ (l : List B). f x ∷ l) (map-append f a b)
 
 -- ---- a pass along the lines
 pub record Passed (text : List ℕ) (from n at : ℕ) (ok inside : Bool) (count : ℕ) (starts₀ starts : List ℕ) (c₀ s₀ c s : List ℤ) : Type 0 where

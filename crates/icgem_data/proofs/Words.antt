@@ -1,14 +1,14 @@
 -- The words of a line, one after the other.
 use mathlib.Core.Path.{_≡_, refl, sym, ap, _∙_}
 use mathlib.Core.Bool.{Bool, true, false}
-use mathlib.Core.List.{List, [], _∷_}
-use Prim.Native.Nat.{ℕ, suc, _+_, _-_, _≤_, _<_}
+use mathlib.Core.List.{List, []}
+use Prim.Native.Nat.{ℕ, _-_}
 use native.Mathlib.Numerals.{add-one}
 use native.Mathlib.Nat.{add-zero}
 use native.Mathlib.Omega.{arith}
 use borrow.Author.Tests.{ltb-true, ltb-false, lt-ltb, le-ltb}
 use lib.Dec.{ltb}
-use lib.ListN.{length, getD, take, drop}
+use lib.ListN.{length, getD, drop}
 use lib.Seq.{getD-drop, drop-drop}
 use Rattle.icgem_decimal.proofs.Tests.{either}
 use Rattle.icgem_file.specs.Header.{wordAt}
@@ -43,7 +43,8 @@ module _ {line : List ℕ} {at from to : ℕ} (w : NextWord line at from to) whe
   }
 
 module _ {line : List ℕ} {f t f1 t1 f2 t2 f3 t3 f4 t4 : ℕ} where
-  pub five-words : NextWord line 0 f t → NextWord line t f1 t1 → NextWord line t1 f2 t2 → NextWord line t2 f3 t3 → NextWord line t3 f4 t4 → FiveWords line f t f1 t1 f2 t2 f3 t3 f4 t4
+  pub five-words : NextWord line 0 f t → NextWord line t f1 t1 → NextWord line t1 f2 t2 → NextWord line t2 f3 t3 → NextWord line t3 f4 t4
+      → FiveWords line f t f1 t1 f2 t2 f3 t3 f4 t4
   five-words a b c d e =
       let w0 = word-is a 0 refl in
       let w1 = word-is b 1 (w0 .rest) in

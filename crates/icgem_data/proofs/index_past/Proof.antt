@@ -1,11 +1,12 @@
 -- A degree above 60 is past every list.
-use borrow.Author.Needs.{needs}
 use Rattle.icgem_data.proofs.Numbers.{stands-past, held, within, stands-here}
 use Rattle.icgem_data.proofs.index_past.Statement.{statement}
 use Rattle.icgem_data.proofs.index_past.Tie as tie
 
 index-of-requires : tie.Need-index-of-requires
-index-of-requires c κs = let a = c .before .args in (within (a .over) (a .degree) (a .order) (c .if1 .left), c .before .pre (held (a .over) (a .degree) (a .order) (c .if1 .left)))
+index-of-requires c κs =
+    let a = c .before .args in
+    (within (a .over) (a .degree) (a .order) (c .if1 .left), c .before .pre (held (a .over) (a .degree) (a .order) (c .if1 .left)))
 
 returns : tie.Need-returns
 returns c = let a = c .before .args in stands-past (a .over) (a .degree) (a .order) (c .if1 .taken)

@@ -1,6 +1,6 @@
 -- Both words are whole numbers, and then both comparisons hold, or the place is refused.
 use borrow.Author.Needs.{needs}
-use mathlib.Core.Path.{_≡_, sym, _∙_}
+use mathlib.Core.Path.{sym, _∙_}
 use Rattle.whole.proofs.Tests.{and-left}
 use Rattle.icgem_data.proofs.Numbers.{place-refused, whole-degree, whole-order, place-beyond, order-below, place-taken}
 use Rattle.icgem_data.proofs.place_of.Statement.{statement}
@@ -8,15 +8,16 @@ use Rattle.icgem_data.proofs.place_of.Tie as tie
 
 at-most-requires : tie.Need-at-most-requires
 at-most-requires c κs =
-    let n = c .before .before .before in (
-      whole-order (n .before .whole-number .ensures) (n .whole-number2 .ensures) (c .if1 .taken),
-      whole-degree (n .before .whole-number .ensures) (n .whole-number2 .ensures) (c .if1 .taken),
-    )
+    let n = c .before .before .before in
+    let d = whole-degree (n .before .whole-number .ensures) (n .whole-number2 .ensures) (c .if1 .taken) in
+    let o = whole-order (n .before .whole-number .ensures) (n .whole-number2 .ensures) (c .if1 .taken) in
+    search needs
 
 at-most-requires-2 : tie.Need-at-most-requires-2
 at-most-requires-2 c κs =
     let n = c .before .before .before .before in
-    (whole-degree (n .before .whole-number .ensures) (n .whole-number2 .ensures) (c .before .if1 .taken), search needs)
+    let d = whole-degree (n .before .whole-number .ensures) (n .whole-number2 .ensures) (c .before .if1 .taken) in
+    search needs
 
 index-past-requires : tie.Need-index-past-requires
 index-past-requires c κs =

@@ -73,20 +73,27 @@ loop-again c =
     (omega (arith, l .loop .inv .low, l .loop .inv .starts-room, r .before .loop-test .taken, s .pre .0, s .pre .1 .1 .1 .0))
 
 same-length : tie.Need-same-length Inv-loop μ-loop
-same-length c = c .before .before .before .before .before .keep-line .ensures .starts-room ∙ c .before .before .before .before .before .before .before .before .before .before .before .before .before .before .loop .inv .starts-room
+same-length c =
+    let k = c .before .before .before .before .before in
+    k .keep-line .ensures .starts-room ∙ k .before .before .before .before .before .before .before .before .before .loop .inv .starts-room
 
 same-length-2 : tie.Need-same-length-2 Inv-loop μ-loop
-same-length-2 c = c .before .before .before .before .before .keep-line .ensures .c-room ∙ c .before .before .before .before .before .before .before .before .before .before .before .before .before .before .loop .inv .c-room
+same-length-2 c =
+    let k = c .before .before .before .before .before in
+    k .keep-line .ensures .c-room ∙ k .before .before .before .before .before .before .before .before .before .loop .inv .c-room
 
 same-length-3 : tie.Need-same-length-3 Inv-loop μ-loop
-same-length-3 c = c .before .before .before .before .before .keep-line .ensures .s-room ∙ c .before .before .before .before .before .before .before .before .before .before .before .before .before .before .loop .inv .s-room
+same-length-3 c =
+    let k = c .before .before .before .before .before in
+    k .keep-line .ensures .s-room ∙ k .before .before .before .before .before .before .before .before .before .loop .inv .s-room
 
 returns : tie.Need-returns Inv-loop μ-loop
 returns c =
     let k = c .before .before .before .before .before in
     let w = k .before .before .before .before .before in
     let r = w .before .before in
-    pass-refused (r .before .before .loop .inv) (r .line-end .ensures) (sym (w .is-worded .ensures) ∙ k .before .before .before .before .if1 .taken) (k .keep-line .ensures) (c .if2 .left)
+    pass-refused (r .before .before .loop .inv) (r .line-end .ensures) (sym (w .is-worded .ensures) ∙ k .before .before .before .before .if1 .taken)
+    (k .keep-line .ensures) (c .if2 .left)
 
 loop-less-2 : tie.Need-loop-less-2 Inv-loop μ-loop
 loop-less-2 c =
