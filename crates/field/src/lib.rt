@@ -1,6 +1,6 @@
 // The field (document 01, "Units and the field"): two lent lists of signed counts, what refuses them, and the one writer to them.
 ghost use mathlib.Core.Path.{_≡_};
-ghost use mathlib.Core.Bool.{true};
+ghost use mathlib.Core.Bool.{true, cond};
 ghost use Prim.Native.Nat.{_+_, _%_, _^_, _≤_, _<_};
 ghost use lib.IntN.{natAbs, pos};
 ghost use lib.ListN.{length, getD};
@@ -80,6 +80,17 @@ fn is_shaped(n: u32, c: usize, s: usize) -> bool
         (c == entries) & (s == entries)
     } else {
         false
+    }
+}
+
+// Refusal 1, by the lists' lengths.
+pub fn shape_tested(n: u32, c: usize, s: usize) -> Answer
+    ensures { λ r. ⌜ answerNumber r ≡ cond (shapedBy n c s) 0 1 ⌝ }
+{
+    if is_shaped(n, c, s) {
+        Answer::Accepted
+    } else {
+        Answer::Refused(Refusal::FieldShape)
     }
 }
 

@@ -36,7 +36,8 @@ pub record DataRead (n : ℕ) (lines : List Line) (c s : List ℤ) (number : ℕ
   pub lists : Filled number lines c s c′ s′
 
 -- a file gone through: its own refusal, and what it says where there is none
-pub record Parsed (text : List ℕ) (c s : List ℤ) (number : ℕ) (head : FileHead) (c′ s′ : List ℤ) : Type 0 where
+pub record PassedFile (text : List ℕ) (c s : List ℤ) (number : ℕ) (head : FileHead) (c′ s′ : List ℤ) : Type 0 where
   pub number-is : number ≡ fileRefusal text
   pub head-is : number ≡ 0 → headSaid text ≡ accepted head
+  pub degree-is : number ≡ 0 → head .degree ≡ degreeOf (worded text)
   pub lists : Filled number (dataOf (worded text)) c s c′ s′

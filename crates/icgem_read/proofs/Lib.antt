@@ -1,0 +1,7 @@
+pub mod Copies
+pub mod Degrees
+pub mod Refusals
+pub mod Sound
+pub mod Lines
+pub mod File
+pub mod Calls
