@@ -11,9 +11,10 @@ use Rattle.doodson.specs.Doodson.{readDoodson}
 use Rattle.hour.specs.declared.Hour.{Hour}
 use Rattle.hour.specs.Hour.{movedHour}
 use Rattle.refusals.specs.Outcome.{Outcome, toldUnless}
+use Rattle.icgem_file.specs.File.{FileRead}
 use Rattle.icgem_write.specs.Outcome.{writeRefusal, bytesAfter}
 use Rattle.icgem_write.specs.Written.{fileText}
-use Rattle.leaving.specs.Leaving.{Leaves, listedOf}
+use Rattle.leaving.specs.Leaving.{HeadNumbers, numbersOf, Leaves, listedOf}
 use Rattle.permanent.specs.Systems.{movedC20}
 use Rattle.surfgimlet.specs.Calls.{solidTide, poleTide, oceanTide}
 use Rattle.choices.specs.declared.PermanentSystem.{PermanentSystem}
@@ -45,6 +46,12 @@ oceanGiven n c s sheet phases frame = outcomeOf c s (next (frameOf frame) (λ f.
 unfoldable pub moveGiven : ℤ → ℕ → ℕ → ℕ → Told ℤ
 moveGiven c20 from to love =
     next (permanentSystem from) (λ f. next (permanentSystem to) (λ t. next (loveModel love) (λ k. movedC20 c20 f t k)))
+
+-- a file read: the answer, both lists, and what the file says as the call returns
+pub record LeavesField (read : FileRead) (c s : List ℤ) (before : HeadNumbers) (number : ℕ) (after : HeadNumbers) : Type 0 where
+  pub left : Leaves (numbersOf (read .head)) before number after
+  pub list-c : c ≡ read .c
+  pub list-s : s ≡ read .s
 
 -- what a call that writes tells, and its output afterwards
 pub record GivenBytes : Type 0 where

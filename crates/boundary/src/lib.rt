@@ -4,13 +4,14 @@ ghost use mathlib.Core.Path.{_≡_};
 ghost use Rattle.crossing.specs.Choices.{unlisted};
 ghost use Rattle.doodson.specs.Doodson.{writeDoodson};
 ghost use Rattle.hour.specs.Hour.{hourAt, startHour};
-ghost use Rattle.leaving.specs.Leaving.{found, Leaves, GivesAndLeaves};
+ghost use Rattle.icgem_file.specs.File.{fileHead, readFile};
+ghost use Rattle.leaving.specs.Leaving.{found, headNumbers, numbersOf, Leaves, GivesAndLeaves};
 ghost use Rattle.lines.specs.Lines.{findLine};
 ghost use Rattle.refusals.specs.Outcome.{Gives};
 ghost use Rattle.surfgimlet.specs.Calls.{ownLines};
 ghost use Rattle.profiles.specs.Profiles.{allLines, majorLines};
 ghost use Rattle.selection.specs.Selection.{linesNamed};
-ghost use Rattle.boundary.specs.Calls.{versionNumber, solidGiven, hourGiven, poleGiven, oceanGiven, moveGiven, LeavesBytes, writeGiven, multipliersGiven};
+ghost use Rattle.boundary.specs.Calls.{versionNumber, solidGiven, hourGiven, poleGiven, oceanGiven, moveGiven, LeavesField, LeavesBytes, writeGiven, multipliersGiven};
 use arguments::Phases;
 use bodies::Body;
 use choices::Frame;
@@ -186,6 +187,48 @@ pub extern "C" fn surfgimlet_move_c20(
     } else {
         NO_SUCH_CHOICE
     }
+}
+
+// What a file says. Refused as surfgimlet::file_head.
+#[no_mangle]
+pub extern "C" fn surfgimlet_file_head(
+    text: &[u8],
+    degree: &mut u32,
+    constant: &mut u64,
+    radius: &mut u64,
+    system: &mut u32,
+) -> u32
+    ensures { λ r. ⌜ Leaves (numbersOf (fileHead (now (text .entry)))) (headNumbers (now (degree .entry)) (now (constant .entry)) (now (radius .entry)) (now (system .entry))) r (headNumbers (now (degree .exit)) (now (constant .exit)) (now (radius .exit)) (now (system .exit))) ⌝ }
+{
+    leaving::leave_head(
+        surfgimlet::file_head(text),
+        degree,
+        constant,
+        radius,
+        system,
+    )
+}
+
+// A file read. Refused as surfgimlet::read_field.
+#[no_mangle]
+pub extern "C" fn surfgimlet_read_field(
+    text: &[u8],
+    c: &mut [i64],
+    s: &mut [i64],
+    degree: &mut u32,
+    constant: &mut u64,
+    radius: &mut u64,
+    system: &mut u32,
+) -> u32
+    ensures { λ r. ⌜ LeavesField (readFile (now (text .entry)) (now (c .entry)) (now (s .entry))) (now (c .exit)) (now (s .exit)) (headNumbers (now (degree .entry)) (now (constant .entry)) (now (radius .entry)) (now (system .entry))) r (headNumbers (now (degree .exit)) (now (constant .exit)) (now (radius .exit)) (now (system .exit))) ⌝ }
+{
+    leaving::leave_head(
+        surfgimlet::read_field(text, c, s),
+        degree,
+        constant,
+        radius,
+        system,
+    )
 }
 
 // A field written as text. Refused: 100, then as surfgimlet::write_field.

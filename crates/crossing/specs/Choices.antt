@@ -34,6 +34,12 @@ frameOf number = chosen (CentreOfFigure ∷ CentreOfMass ∷ []) number
 abbrev pub permanentSystem : ℕ → Told PermanentSystem
 permanentSystem number = chosen (TideFree ∷ Zero ∷ Mean ∷ []) number
 
+-- the number of a system that is answered
+unfoldable pub systemNumber : PermanentSystem → ℕ
+systemNumber TideFree = 0
+systemNumber Zero = 1
+systemNumber Mean = 2
+
 -- in the order of a record's phases
 abbrev pub argumentOf : ℕ → Told Argument
 argumentOf number = chosen (Tau ∷ S ∷ H ∷ P ∷ Np ∷ Ps ∷ []) number

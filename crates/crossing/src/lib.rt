@@ -1,7 +1,7 @@
 // What crosses from C as numbers: the closed choices, the bodies and a list of multipliers. A choice has a test, whether the number names a case, and a
 // conversion, total so that it can stand behind the test; include/surfgimlet.h has the numbers.
 ghost use mathlib.Core.Path.{_≡_};
-ghost use Rattle.crossing.specs.Choices.{loveModel, frameOf, permanentSystem, argumentOf, bodyOf, unlisted};
+ghost use Rattle.crossing.specs.Choices.{loveModel, frameOf, permanentSystem, argumentOf, bodyOf, unlisted, systemNumber};
 ghost use Rattle.crossing.specs.Inner.{names, Converts};
 use arguments::Argument;
 use arguments::Multipliers;
@@ -65,6 +65,16 @@ pub fn system_of(system: u32) -> PermanentSystem
         0 => PermanentSystem::TideFree,
         1 => PermanentSystem::Zero,
         _ => PermanentSystem::Mean,
+    }
+}
+
+pub fn system_number(system: PermanentSystem) -> u32
+    ensures { λ r. ⌜ r ≡ systemNumber system ⌝ }
+{
+    match system {
+        PermanentSystem::TideFree => 0,
+        PermanentSystem::Zero => 1,
+        PermanentSystem::Mean => 2,
     }
 }
 

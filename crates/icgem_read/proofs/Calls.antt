@@ -30,9 +30,11 @@ zeros = replicate 1891 (pos 0)
 shaped-facts : (n c s : ℕ) → shapedBy n c s ≡ true → (n ≤ 60) × (c ≡ size n) × (s ≡ size n)
 unfolding shapedBy
 shaped-facts n c s e =
-    let front : (isDegree n && eqb c (size n)) ≡ true = and-left (isDegree n && eqb c (size n)) (eqb s (size n)) e in
-    (leb-true n 60 (and-right (leb 4 n) (leb n 60) (and-left (isDegree n) (eqb c (size n)) front)), eqb-true c (size n) (and-right (isDegree n) (eqb c (size n)) front),
-    eqb-true s (size n) (and-right (isDegree n && eqb c (size n)) (eqb s (size n)) e))
+    let front : (isDegree n && eqb c (size n)) ≡ true = and-left (isDegree n && eqb c (size n)) (eqb s (size n)) e in (
+      leb-true n 60 (and-right (leb 4 n) (leb n 60) (and-left (isDegree n) (eqb c (size n)) front)),
+      eqb-true c (size n) (and-right (isDegree n) (eqb c (size n)) front),
+      eqb-true s (size n) (and-right (isDegree n && eqb c (size n)) (eqb s (size n)) e),
+    )
 
 -- ---- the head alone
 module _ {text : List ℕ} {c s c′ s′ : List ℤ} {number : ℕ} {head : FileHead} (p : PassedFile text c s number head c′ s′) where

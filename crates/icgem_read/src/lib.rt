@@ -163,13 +163,7 @@ fn malformed() -> Passed
 }
 
 // Goes through a file, and puts its counts into two lists.
-fn pass(
-    text: &[u8],
-    starts: &mut [u32],
-    spare: &mut [u32],
-    c: &mut [i64],
-    s: &mut [i64],
-) -> Passed
+fn pass(text: &[u8], starts: &mut [u32], spare: &mut [u32], c: &mut [i64], s: &mut [i64]) -> Passed
     requires { ⌜ 16384 ≤ length (now starts) ⌝ ∗ ⌜ length (now starts) ≤ length (now spare) ⌝ ∗ ⌜ length (now c) ≤ 1891 ⌝ ∗ ⌜ length (now s) ≤ 1891 ⌝ }
     ensures { λ r. ⌜ PassedFile (now (text .entry)) (now (c .entry)) (now (s .entry)) (answerNumber (r .answer)) (r .head) (now (c .exit)) (now (s .exit)) ⌝ }
 {

@@ -4,6 +4,8 @@ use mathlib.Core.Path.{_≡_}
 use Prim.Native.Nat.{ℕ}
 use lib.IntN.{ℤ}
 use Rattle.arguments.specs.declared.Multipliers.{Multipliers}
+use Rattle.crossing.specs.Choices.{systemNumber}
+use Rattle.icgem_file.specs.declared.FileHead.{FileHead}
 use Rattle.lines.specs.Lines.{Found}
 use Rattle.refusals.specs.Outcome.{Outcome, toldUnless}
 use Rattle.refusals.specs.Told.{Told, toldNumber, next}
@@ -19,6 +21,19 @@ listedOf told = next told (λ m. accepted (listed m))
 -- a printed line's three results
 abbrev pub found : ℕ → ℤ → ℤ → Found
 found index first second = record { index = index; first = first; second = second }
+
+-- what a file says, as four numbers
+pub record HeadNumbers : Type 0 where
+  pub degree : ℕ
+  pub constant : ℕ
+  pub radius : ℕ
+  pub system : ℕ
+
+abbrev pub headNumbers : ℕ → ℕ → ℕ → ℕ → HeadNumbers
+headNumbers degree constant radius system = record { degree = degree; constant = constant; radius = radius; system = system }
+
+abbrev pub numbersOf : Told FileHead → Told HeadNumbers
+numbersOf told = next told (λ h. accepted (headNumbers (h .degree) (h .constant) (h .radius) (systemNumber (h .system))))
 
 -- what lent memory holds afterwards: the value told, or where the call is refused what it held
 abbrev pub toldOr : {A : Type 0} → A → Told A → A

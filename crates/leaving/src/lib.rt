@@ -1,13 +1,15 @@
 // What a call answers to C beside its number: each value goes to the lent memory that is its own, and where the call is refused the
 // memory keeps what it holds.
 ghost use Rattle.doodson.specs.Doodson.{tellsRead, tellsWritten};
+ghost use Rattle.icgem_read.specs.Told.{tells as tellsFile};
 ghost use Rattle.icgem_write.specs.Outcome.{tells as tellsWrote};
 ghost use Rattle.lines.specs.Lines.{tells as tellsSought};
 ghost use Rattle.permanent.specs.Systems.{tells as tellsMoved};
 ghost use Rattle.selection.specs.Selection.{tells as tellsNamed};
-ghost use Rattle.leaving.specs.Leaving.{listedOf, found, Leaves};
+ghost use Rattle.leaving.specs.Leaving.{listedOf, found, headNumbers, numbersOf, Leaves};
 use doodson::Read;
 use doodson::Written;
+use icgem_read::FileTold;
 use icgem_write::Wrote;
 use lines::Sought;
 use permanent::Moved;
@@ -47,6 +49,29 @@ pub fn leave_wrote(told: Wrote, written: &mut usize) -> u32
             0
         }
         Wrote::Refused(why) => refusal_number(why),
+    }
+}
+
+// What a file says.
+pub fn leave_head(
+    told: FileTold,
+    degree: &mut u32,
+    constant: &mut u64,
+    radius: &mut u64,
+    system: &mut u32,
+) -> u32
+    ensures { λ r. ⌜ Leaves (numbersOf (tellsFile told)) (headNumbers (now (degree .entry)) (now (constant .entry)) (now (radius .entry)) (now (system .entry))) r (headNumbers (now (degree .exit)) (now (constant .exit)) (now (radius .exit)) (now (system .exit))) ⌝ }
+{
+    match told {
+        FileTold::Head(head) => {
+            let said = head.system;
+            *degree = head.degree;
+            *constant = head.constant;
+            *radius = head.radius;
+            *system = crossing::system_number(said);
+            0
+        }
+        FileTold::Refused(why) => refusal_number(why),
     }
 }
 

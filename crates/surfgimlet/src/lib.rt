@@ -8,6 +8,8 @@ ghost use Rattle.doodson.specs.Doodson.{readDoodson, writeDoodson, tellsRead, t
 ghost use Rattle.field.specs.Added.{addedAt};
 ghost use Rattle.field.specs.Field.{fieldRefusal};
 ghost use Rattle.hour.specs.Hour.{hourAt, startHour, movedHour};
+ghost use Rattle.icgem_file.specs.File.{fileHead, readFile};
+ghost use Rattle.icgem_read.specs.Told.{Reads, tells as tellsFile};
 ghost use Rattle.icgem_write.specs.Outcome.{Writes, tells as tellsWrote};
 ghost use Rattle.lines.specs.Lines.{findLine, tells as tellsSought};
 ghost use Rattle.permanent.specs.Systems.{movedC20, tells as tellsMoved};
@@ -28,6 +30,7 @@ use choices::PermanentSystem;
 use doodson::Read;
 use doodson::Written;
 use hour::Hour;
+use icgem_read::FileTold;
 use icgem_write::Wrote;
 use lines::Sought;
 use own::OwnLine;
@@ -194,6 +197,27 @@ pub fn move_c20(c20: i64, from: PermanentSystem, to: PermanentSystem, love: Love
     ensures { λ r. ⌜ tellsMoved r ≡ movedC20 c20 from to love ⌝ }
 {
     permanent::move_c20(c20, from, to, love)
+}
+
+// What a gravity field file says beside its coefficients (document 02, T-10).
+// Given: the bytes of a file.
+// Answered: its degree, gravity constant in m3/s2, radius in millimetres and permanent system, each decimal exact and rounded once.
+// Refused: 17, then 18, then 19, then 20, each looking at the whole file.
+pub fn file_head(text: &[u8]) -> FileTold
+    ensures { λ r. ⌜ tellsFile r ≡ fileHead (now (text .entry)) ⌝ }
+{
+    icgem_read::file_head(text)
+}
+
+// A gravity field file read (document 02, T-10).
+// Given: the bytes of a file, and two lists.
+// Done: every entry of both lists is set, S at order 0 too: to the count of its line, or to zero where the file has none.
+// Answered: as file_head.
+// Refused: as file_head, then 1, lists that do not fit the file's degree.
+pub fn read_field(text: &[u8], c: &mut [i64], s: &mut [i64]) -> FileTold
+    ensures { λ r. ⌜ Reads (readFile (now (text .entry)) (now (c .entry)) (now (s .entry))) (tellsFile r) (now (c .exit)) (now (s .exit)) ⌝ }
+{
+    icgem_read::read_field(text, c, s)
 }
 
 // A field written as the text of a gravity field file (document 02, T-10).

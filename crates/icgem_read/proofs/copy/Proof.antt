@@ -42,9 +42,11 @@ loop-again : tie.Need-loop-again Inv-loop μ-loop
 loop-again c =
     let l = c .before .before .loop in
     let s = c .before .before .before in
-    let below : l .i < length (s .args .list .now) = omega (arith, l .inv .1) in
-    (omega arith, length-set (l .list) (l .i) _ ∙ l .inv .1,
-    copied-next (s .args .list .now) (s .args .from .now) (l .i) below (omega (arith, s .pre)) (l .inv .2) (toZ-ofZ {w = w64} (record { sfits = c .entry .given })))
+    let below : l .i < length (s .args .list .now) = omega (arith, l .inv .1) in (
+      omega arith,
+      length-set (l .list) (l .i) _ ∙ l .inv .1,
+      copied-next (s .args .list .now) (s .args .from .now) (l .i) below (omega (arith, s .pre)) (l .inv .2) (toZ-ofZ {w = w64} (record { sfits = c .entry .given })),
+    )
 
 same-length : tie.Need-same-length Inv-loop μ-loop
 same-length c = c .before .loop .inv .1
