@@ -5,3 +5,4 @@ pub mod Sound
 pub mod Lines
 pub mod File
 pub mod Calls
+pub mod OneResult

@@ -1,3 +1,4 @@
 pub mod Lines
 pub mod Lengths
 pub mod Outcome
+pub mod OneResult
