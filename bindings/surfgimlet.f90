@@ -1,16 +1,18 @@
 ! Surfgimlet for Fortran: every call of include/surfgimlet.h, which says what each is given, answers and refuses.
-! Fortran has no unsigned numbers: a phase is handed over as the 32 bits that `phase` makes of it.
+! Fortran has no unsigned numbers: a phase is handed over as the 32 bits that `phase` makes of it, and a gravity constant or a
+! radius of 2**63 or more, which no planet has, comes as a number below 0.
 module surfgimlet
     use, intrinsic :: iso_c_binding
     implicit none
     private
-    public :: c_int32_t, c_int64_t, c_size_t, c_double, c_int8_t
+    public :: c_int32_t, c_int64_t, c_size_t, c_double, c_int8_t, c_char
     public :: phases, hour, body, own_line, phase, words
     public :: version, start_hour, set_hour, move_hour
     public :: solid_tide, all_lines, major_lines, own_lines, pole_tide, ocean_tide, move_c20
     public :: multipliers_of, number_of, find_line
+    public :: file_bytes, write_field, file_head, read_field
 
-    integer(c_int32_t), parameter, public :: header_version = 4001000
+    integer(c_int32_t), parameter, public :: header_version = 4002000
     integer(c_int32_t), parameter, public :: elastic = 0, anelastic = 1
     integer(c_int32_t), parameter, public :: centre_of_figure = 0, centre_of_mass = 1
     integer(c_int32_t), parameter, public :: tide_free = 0, zero_tide = 1, mean_tide = 2
@@ -137,6 +139,36 @@ module surfgimlet
             integer(c_size_t), intent(inout) :: index
             integer(c_int64_t), intent(inout) :: first, second
         end function
+
+        integer(c_int32_t) function c_write_field(n, c, c_length, s, s_length, constant, radius, system, text, text_length, &
+            written) bind(c, name="surfgimlet_write_field")
+            import
+            integer(c_int32_t), value :: n, system
+            integer(c_int64_t), intent(in) :: c(*), s(*)
+            integer(c_size_t), value :: c_length, s_length, text_length
+            integer(c_int64_t), value :: constant, radius
+            character(kind=c_char), intent(inout) :: text(*)
+            integer(c_size_t), intent(inout) :: written
+        end function
+
+        integer(c_int32_t) function c_file_head(text, text_length, degree, constant, radius, system) &
+            bind(c, name="surfgimlet_file_head")
+            import
+            character(kind=c_char), intent(in) :: text(*)
+            integer(c_size_t), value :: text_length
+            integer(c_int32_t), intent(inout) :: degree, system
+            integer(c_int64_t), intent(inout) :: constant, radius
+        end function
+
+        integer(c_int32_t) function c_read_field(text, text_length, c, c_length, s, s_length, degree, constant, radius, system) &
+            bind(c, name="surfgimlet_read_field")
+            import
+            character(kind=c_char), intent(in) :: text(*)
+            integer(c_size_t), value :: text_length, c_length, s_length
+            integer(c_int64_t), intent(inout) :: c(*), s(*)
+            integer(c_int32_t), intent(inout) :: degree, system
+            integer(c_int64_t), intent(inout) :: constant, radius
+        end function
     end interface
 
 contains
@@ -176,6 +208,41 @@ contains
         answer = c_ocean_tide(n, c, size(c, kind=c_size_t), s, size(s, kind=c_size_t), sheet, size(sheet, kind=c_size_t), at, frame)
     end function
 
+    ! how many bytes write_field makes of a field of degree n
+    elemental integer(c_size_t) function file_bytes(n)
+        integer(c_int32_t), intent(in) :: n
+        file_bytes = 54 * (9 + (n + 1_c_size_t) * (n + 2_c_size_t) / 2)
+    end function
+
+    ! the gravity constant in m3/s2, the radius in millimetres; the file is text(:written), and what stands behind it stays
+    integer(c_int32_t) function write_field(n, c, s, constant, radius, system, text, written) result(answer)
+        integer(c_int32_t), intent(in) :: n, system
+        integer(c_int64_t), intent(in), contiguous :: c(:), s(:)
+        integer(c_int64_t), intent(in) :: constant, radius
+        character(*, c_char), intent(inout) :: text
+        integer(c_size_t), intent(inout) :: written
+        answer = c_write_field(n, c, size(c, kind=c_size_t), s, size(s, kind=c_size_t), constant, radius, system, &
+                               text, len(text, kind=c_size_t), written)
+    end function
+
+    ! what the header says; the data lines are tested as read_field tests them
+    integer(c_int32_t) function file_head(text, degree, constant, radius, system) result(answer)
+        character(*, c_char), intent(in) :: text
+        integer(c_int32_t), intent(inout) :: degree, system
+        integer(c_int64_t), intent(inout) :: constant, radius
+        answer = c_file_head(text, len(text, kind=c_size_t), degree, constant, radius, system)
+    end function
+
+    ! lists of (degree + 1) * (degree + 2) / 2 entries are lent, the degree being the one that file_head gives
+    integer(c_int32_t) function read_field(text, c, s, degree, constant, radius, system) result(answer)
+        character(*, c_char), intent(in) :: text
+        integer(c_int64_t), intent(inout), contiguous :: c(:), s(:)
+        integer(c_int32_t), intent(inout) :: degree, system
+        integer(c_int64_t), intent(inout) :: constant, radius
+        answer = c_read_field(text, len(text, kind=c_size_t), c, size(c, kind=c_size_t), s, size(s, kind=c_size_t), &
+                              degree, constant, radius, system)
+    end function
+
     ! the 32 bits of a phase, a turn being 2**32; whole turns are left out
     elemental integer(c_int32_t) function phase(units)
         integer(c_int64_t), intent(in) :: units
@@ -206,6 +273,11 @@ contains
         case (14); words = "the selection has a bit above 48, which stands for no line"
         case (15); words = "a pole offset is outside -1,000,000..1,000,000 micro-arcseconds"
         case (16); words = "two lines of the sheet have the same six multipliers"
+        case (17); words = "the file is malformed, or an entry of its header is missing or repeated"
+        case (18); words = "two lines of the file have the same place"
+        case (19); words = "the file's degree or a value is out of range"
+        case (20); words = "the file names no known tide system"
+        case (21); words = "the output is too small"
         case (100); words = "a choice, a body's kind or an argument is none of its numbers"
         case default; words = "no answer of this unit"
         end select

@@ -13,7 +13,7 @@ from array import array
 from collections import namedtuple
 from ctypes import POINTER, byref, c_double, c_int32, c_int64, c_size_t, c_uint8, c_uint32, c_uint64
 
-VERSION = 4001000
+VERSION = 4002000
 ELASTIC, ANELASTIC = 0, 1
 CENTRE_OF_FIGURE, CENTRE_OF_MASS = 0, 1
 TIDE_FREE, ZERO_TIDE, MEAN_TIDE = 0, 1, 2
@@ -38,6 +38,11 @@ WORDS = {
     14: "the selection has a bit above 48, which stands for no line",
     15: "a pole offset is outside -1,000,000..1,000,000 micro-arcseconds",
     16: "two lines of the sheet have the same six multipliers",
+    17: "the file is malformed, or an entry of its header is missing or repeated",
+    18: "two lines of the file have the same place",
+    19: "the file's degree or a value is out of range",
+    20: "the file names no known tide system",
+    21: "the output is too small",
     100: "a choice, a body's kind or an argument is none of its numbers",
 }
 
@@ -48,6 +53,9 @@ Body = namedtuple('Body', 'kind ratio x y z r')
 # six multipliers, and the amplitudes in phase and out of phase in tenths of 10^-12
 OwnLine = namedtuple('OwnLine', 'tau s h p np ps ip op')
 Line = namedtuple('Line', 'index first second')
+# of a gravity field file: the gravity constant in m3/s2, the radius in millimetres, the tide system by its number; both lists as array('q')
+FileHead = namedtuple('FileHead', 'degree constant radius system')
+FieldFile = namedtuple('FieldFile', 'degree constant radius system c s')
 
 
 class Refused(ValueError):
@@ -85,6 +93,7 @@ def _library():
     beside = pathlib.Path(__file__).resolve().parents[2] / 'lib' / 'libsurfgimlet.so'
     library = ctypes.CDLL(os.environ.get('SURFGIMLET_LIBRARY') or str(beside))
     lists = [c_uint32, POINTER(c_int64), c_size_t, POINTER(c_int64), c_size_t]
+    text, head = [POINTER(c_uint8), c_size_t], [POINTER(c_uint32), POINTER(c_uint64), POINTER(c_uint64), POINTER(c_uint32)]
     for name, given in (
             ('version', []),
             ('solid_tide', lists + [_Body, _Body, c_uint32, Hour, c_uint64, POINTER(c_uint32)]),
@@ -94,7 +103,10 @@ def _library():
             ('move_c20', [c_int64, c_uint32, c_uint32, c_uint32, POINTER(c_int64)]),
             ('multipliers_of', [c_uint32, POINTER(c_int32)]),
             ('number_of', [POINTER(c_int32), POINTER(c_uint32)]),
-            ('find_line', [c_uint32, POINTER(c_size_t), POINTER(c_int64), POINTER(c_int64)])):
+            ('find_line', [c_uint32, POINTER(c_size_t), POINTER(c_int64), POINTER(c_int64)]),
+            ('write_field', lists + [c_uint64, c_uint64, c_uint32, POINTER(c_uint8), c_size_t, POINTER(c_size_t)]),
+            ('read_field', text + lists[1:] + head),
+            ('file_head', text + head)):
         call = getattr(library, 'surfgimlet_' + name)
         call.argtypes, call.restype = given, c_uint32
     for name in ('all_lines', 'major_lines'):
@@ -140,15 +152,26 @@ def _own_line(line):
     return _OwnLine(*array('i', multipliers), *array('q', (ip, op)))
 
 
-def _over_field(call, n, c, s, *given):
+def _lent(c, s):
     if c is s:
         raise ValueError('C and S are one list')
-    lent = [l if isinstance(l, array) and l.typecode == 'q' else array('q', l) for l in (c, s)]
-    views = [(c_int64 * len(l)).from_buffer(l) for l in lent]
-    _accepted(call(_u32(n), views[0], len(c), views[1], len(s), *given))
+    return [l if isinstance(l, array) and l.typecode == 'q' else array('q', l) for l in (c, s)]
+
+
+def _handed(lent):
+    return [part for l in lent for part in ((c_int64 * len(l)).from_buffer(l), len(l))]
+
+
+def _over_field(call, n, c, s, *given):
+    lent = _lent(c, s)
+    _accepted(call(_u32(n), *_handed(lent), *given))
     for own, corrected in zip((c, s), lent):
         if own is not corrected:
             own[:] = corrected
+
+
+def _bytes(data):
+    return (c_uint8 * len(data)).from_buffer_copy(data), len(data)
 
 
 def version():
@@ -203,8 +226,7 @@ def pole_tide(n, c, s, xp, yp, love_model):
 
 
 def ocean_tide(n, c, s, sheet, phases, frame):
-    held = (c_uint8 * len(sheet)).from_buffer_copy(sheet)
-    _over_field(_unit.surfgimlet_ocean_tide, n, c, s, held, len(sheet), _phases(phases), _u32(frame))
+    _over_field(_unit.surfgimlet_ocean_tide, n, c, s, *_bytes(sheet), _phases(phases), _u32(frame))
 
 
 def move_c20(c20, from_system, to_system, love_model):
@@ -231,3 +253,34 @@ def find_line(number):
     index, first, second = c_size_t(), c_int64(), c_int64()
     _accepted(_unit.surfgimlet_find_line(_u32(number), byref(index), byref(first), byref(second)))
     return Line(index.value, first.value, second.value)
+
+
+def file_bytes(n):
+    """How many bytes write_field makes of a field of degree n."""
+    return 54 * (9 + (n + 1) * (n + 2) // 2)
+
+
+def write_field(n, c, s, constant, radius, system):
+    """The bytes of a gravity field file; the gravity constant in m3/s2, the radius in millimetres, the tide system of C20."""
+    out, written = (c_uint8 * file_bytes(min(_u32(n), 60)))(), c_size_t()
+    given = _unsigned(constant, 64), _unsigned(radius, 64), _u32(system)
+    _accepted(_unit.surfgimlet_write_field(n, *_handed(_lent(c, s)), *given, out, len(out), byref(written)))
+    return bytes(out)[:written.value]
+
+
+def _read(call, data, *lists):
+    head = c_uint32(), c_uint64(), c_uint64(), c_uint32()
+    _accepted(call(*_bytes(data), *lists, *map(byref, head)))
+    return FileHead(*(part.value for part in head))
+
+
+def file_head(data):
+    """What a gravity field file's header says; the data lines are tested as read_field tests them."""
+    return _read(_unit.surfgimlet_file_head, data)
+
+
+def read_field(data):
+    """A gravity field file's header and field, 0 where no line has a place."""
+    n = file_head(data).degree
+    lent = [array('q', bytes(8 * ((n + 1) * (n + 2) // 2))) for _ in 'CS']
+    return FieldFile(*_read(_unit.surfgimlet_read_field, data, *_handed(lent)), *lent)

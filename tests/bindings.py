@@ -16,6 +16,21 @@ SUN = unit.rectangular(332946, 1e11, 1.1e11, 3e10)
 BODIES = ([0, 0, 0, -506485, 3768761, 2287483, -12903, -11534, 6746, -5034, 13877, -10092, -4304, 0, 0],
           [0, 0, 0, 0, -1171829, -3316535, 0, 7669, -16181, -25599, 0, 3191, 6299, 0, 0])
 ELASTIC_C22 = 2250388
+HEAD = 4, 398600441500000, 6378136300, unit.MEAN_TIDE
+# a field in this head, zeros but for four entries, as the second program writes it: the header, and the lines of (2,0), (2,1) and (4,4)
+WRITTEN = (
+    b'product_type                            gravity_field\n'
+    b'modelname                                  surfgimlet\n'
+    b'earth_gravity_constant                398600441500000\n'
+    b'radius                                    6378136.300\n'
+    b'max_degree                                          4\n'
+    b'errors                                             no\n'
+    b'norm                                 fully_normalized\n'
+    b'tide_system                                 mean_tide\n'
+    b'end_of_head =========================================\n',
+    b'gfc  2  0    -0.000484165371736     0.000000000000000\n'
+    b'gfc  2  1     0.000000000000000     0.000000000000007\n',
+    b'gfc  4  4  1152.921504606846976 -1152.921504606846976\n')
 TWINS = bytes((2, 0, *(2, 1, 0, 0, 0, 7) * 2, 1, 0, *[0] * 8, 0, 0))       # two lines, one tide, no place
 faults = []
 
@@ -72,8 +87,48 @@ def hours():
     expect('one with it', kept.cosines[10], unit.set_hour(DAY._replace(ps=DAY.ps + 1)).cosines[10])
 
 
+def files():
+    """A field written and read back, lists of both kinds; what is refused and what the calls cannot hold."""
+    c, s = field()
+    c[3], s[4], c[14], s[14] = -484165371736, 7, 2 ** 60, -2 ** 60
+    text = unit.write_field(4, c, s, *HEAD[1:])
+    expect('the text', (text[:486], text[648:756], text[-54:]), WRITTEN)
+    expect('its length', (len(text), unit.file_bytes(4), unit.file_bytes(60)), (1296, 1296, 102600))
+    expect('the text of arrays', unit.write_field(4, array('q', c), array('q', s), *HEAD[1:]), text)
+    for what, data in (
+            ('the text', text), ('a bytearray', bytearray(text)), ('a view', memoryview(text)), ('CR LF', text.replace(b'\n', b'\r\n')),
+            ('a decimal at a half', text.replace(b'0.000000000000007', b'\t+.65D-14')), ('131,072 bytes', text.ljust(131072)),
+            ('a place without a line', text.replace(b'gfc  3  1     0.000000000000000     0.000000000000000\n', b''))):
+        expect(f'the head of {what}', raised(unit.file_head, data), HEAD)
+        read = unit.read_field(data)
+        expect(f'the field of {what}', (read[:4], list(read.c), list(read.s)), (HEAD, c, s))
+    expect('the text of what was read', unit.write_field(read.degree, read.c, read.s, read.constant, read.radius, read.system), text)
+    for head, *lists in (((4, 2 ** 64 - 1, 2 ** 64 - 1, 0), c, s), ((60, 0, 0, 1), [0] * 1891, array('q', [1] * 1891))):
+        expect(f'the head {head}', raised(unit.file_head, unit.write_field(head[0], *lists, *head[1:])), head)
+    for what, data, wanted in (
+            ('no file', b'', 17), ('a cut file', text[:-30], 17), ('131,073 bytes', text.ljust(131073), 17), ('a byte 255', text + b'\xff', 17),
+            ('twin places', text + text[-54:], 18), ('a degree 61', text.replace(b'degree                                          4', b'degree 61'), 19),
+            ('1152.9215046068469765', text.replace(b' 1152.921504606846976 ', b' 1152.9215046068469765 '), 19),
+            ('no system', text.replace(b'tide_system', b'tide-system'), 20), ('a system Mean_tide', text.replace(b'mean_tide', b'Mean_tide'), 20),
+            ('words', text.decode(), TypeError), ('no bytes', None, TypeError)):
+        expect(f'the head of {what}', raised(unit.file_head, data), wanted)
+        expect(f'the field of {what}', raised(unit.read_field, data), wanted)
+    expect('a degree 3', raised(unit.write_field, 3, c[:10], s[:10], *HEAD[1:]), 1)
+    expect('a degree 2^32 - 1', raised(unit.write_field, 2 ** 32 - 1, c, s, *HEAD[1:]), 1)
+    expect('a list too long', raised(unit.write_field, 4, c, s + [0], *HEAD[1:]), 1)
+    expect('an entry of 2^60 + 1', raised(unit.write_field, 4, *field(2 ** 60 + 1), *HEAD[1:]), 2)
+    expect('a system 3', raised(unit.write_field, 3, c, s, 0, 0, 3), 100)
+    expect('one list written twice', raised(unit.write_field, 4, c, c, 0, 0, 0), ValueError)
+    expect('a degree of 2^32', raised(unit.write_field, 2 ** 32 + 4, c, s, 0, 0, 0), OverflowError)
+    expect('a constant below 0', raised(unit.write_field, 4, c, s, -1, 0, 0), OverflowError)
+    expect('a radius of 2^64', raised(unit.write_field, 4, c, s, 0, 2 ** 64, 0), OverflowError)
+    expect('a radius in metres', raised(unit.write_field, 4, c, s, 0, 6378136.3, 0), TypeError)
+    expect('a system of 2^32', raised(unit.write_field, 4, c, s, 0, 0, 2 ** 32), OverflowError)
+
+
 def main():
     hours()
+    files()
     for kind in (list, lambda entries: array('q', entries)):
         c, s = map(kind, field())
         expect('no lines', solid(c, s, selection=0), 0)
