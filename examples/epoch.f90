@@ -1,7 +1,7 @@
-! Every call at one epoch, 2004-05-17 0h: `epoch SHEET <epoch.txt`. The input is six phases, then of the Moon and of the Sun the
-! mass ratio, x, y, z and r, then how many own lines there are, and of each the six multipliers, ip and op, then the pole's offsets
-! xp and yp, which are not that day's. The corrections are gathered in zeros of degree 12; a processor adds 1e-15 times each to its
-! own coefficients.
+! Every call but those of files, at one epoch, 2004-05-17 0h: `epoch SHEET <epoch.txt`. The input is six phases, then of the Moon
+! and of the Sun the mass ratio, x, y, z and r, then how many own lines there are, and of each the six multipliers, ip and op, then
+! the pole's offsets xp and yp, which are not that day's. The corrections are gathered in zeros of degree 12; a processor adds
+! 1e-15 times each to its own coefficients.
 program epoch
     use surfgimlet
     implicit none
