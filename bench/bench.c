@@ -1,7 +1,8 @@
-/* Holds best.c to the unit on many inputs, then times each call of the unit, of best.c by each compiler, of an earlier archive where one is given, and of
- * doubles.c, in turn, and keeps the fastest of many rounds of each: what others do on the machine only adds. */
+/* Holds best.c and files.c to the unit on many inputs, then times each call of the unit, of these two by each compiler, of an earlier archive where one is
+ * given, and of doubles.c, in turn, and keeps the fastest of many rounds of each: what others do on the machine only adds. */
 #define _POSIX_C_SOURCE 200809L
 #include <math.h>
+#include <stdarg.h>
 #include <stdio.h>
 #include <stdlib.h>
 #include <string.h>
@@ -11,9 +12,10 @@
 #define SIZE 1891
 #define ROUNDS 300
 #define CALLS 120000
+#define FILES 12000
 
-/* ANEW is the solid tide, its hour set in front of it; TWINS the ocean tide of a sheet with twin lines */
-enum { SOLID, OWN, POLE, OCEAN, SET, MOVE, KINDS, ANEW = KINDS, TWINS };
+/* ANEW is the solid tide, its hour set in front of it; TWINS the ocean tide of a sheet with twin lines; the last three are of files */
+enum { SOLID, OWN, POLE, OCEAN, SET, MOVE, KINDS, ANEW = KINDS, TWINS, WRITE, READ, HEAD };
 
 /* what a call is given */
 static uint32_t n, choice;
@@ -37,27 +39,37 @@ static int64_t c[SIZE], s[SIZE];
 static double cd[SIZE], sd[SIZE];
 static uint32_t answer, named;
 
+/* a field that is written, beside what its file says; a file that is read, and what it says */
+typedef struct { uint64_t constant, radius; uint32_t degree, system; } saying;
+static int64_t c_given[SIZE], s_given[SIZE];
+static saying given, told;
+static uint8_t out[SURFGIMLET_FILE_BYTES(60)], text[140000];
+static size_t out_length, written, text_length;
+
 /* ---- the ways */
 
 /* where set is 0 the solid tide is that of phases, and where this is 0 too the two steps; version is an earlier archive's */
 typedef struct {
     const char *name;
     start_call *start; set_call *set; move_call *move; solid_call *solid; own_call *own; pole_call *pole; ocean_call *ocean;
+    write_call *write; read_call *read; head_call *head;
     phases_call *of_phases; step_one_call *one; step_two_call *two;
     version_call *version;
 } way;
 
 static const way ways[] = {
     {"unit", surfgimlet_start_hour, surfgimlet_set_hour, surfgimlet_move_hour, surfgimlet_solid_tide, surfgimlet_own_lines, surfgimlet_pole_tide,
-     surfgimlet_ocean_tide, 0, 0, 0, 0},
-    {"gcc", gcc_start_hour, gcc_set_hour, gcc_move_hour, gcc_solid_tide, gcc_own_lines, gcc_pole_tide, gcc_ocean_tide, 0, 0, 0, 0},
+     surfgimlet_ocean_tide, surfgimlet_write_field, surfgimlet_read_field, surfgimlet_file_head, 0, 0, 0, 0},
+    {"gcc", gcc_start_hour, gcc_set_hour, gcc_move_hour, gcc_solid_tide, gcc_own_lines, gcc_pole_tide, gcc_ocean_tide, gcc_write_field, gcc_read_field,
+     gcc_file_head, 0, 0, 0, 0},
 #ifdef WITH_CLANG
-    {"clang", clang_start_hour, clang_set_hour, clang_move_hour, clang_solid_tide, clang_own_lines, clang_pole_tide, clang_ocean_tide, 0, 0, 0, 0},
+    {"clang", clang_start_hour, clang_set_hour, clang_move_hour, clang_solid_tide, clang_own_lines, clang_pole_tide, clang_ocean_tide, clang_write_field,
+     clang_read_field, clang_file_head, 0, 0, 0, 0},
 #endif
 #ifdef WITH_EARLIER
     {"earlier", earlier_surfgimlet_start_hour, earlier_surfgimlet_set_hour, earlier_surfgimlet_move_hour, earlier_surfgimlet_solid_tide,
-     earlier_surfgimlet_own_lines, earlier_surfgimlet_pole_tide, earlier_surfgimlet_ocean_tide, earlier_solid_tide_of_phases, earlier_surfgimlet_step_one,
-     earlier_surfgimlet_step_two, earlier_surfgimlet_version},
+     earlier_surfgimlet_own_lines, earlier_surfgimlet_pole_tide, earlier_surfgimlet_ocean_tide, earlier_surfgimlet_write_field, earlier_surfgimlet_read_field,
+     earlier_surfgimlet_file_head, earlier_solid_tide_of_phases, earlier_surfgimlet_step_one, earlier_surfgimlet_step_two, earlier_surfgimlet_version},
 #endif
 };
 #define WAYS ((int)(sizeof ways / sizeof *ways))
@@ -68,10 +80,14 @@ static const way ways[] = {
 #define EARLIER WAYS
 #endif
 
-/* an earlier archive may be without the pole tide, make the solid tide of phases or in two steps, and so keep no hour, and accept twin lines */
+static int of_files(int what) { return what == WRITE || what == READ || what == HEAD; }
+
+/* an earlier archive may be without the pole tide, make the solid tide of phases or in two steps, and so keep no hour, accept twin lines, and know no files,
+ * which doubles.c leaves out too */
 static int has(int by, int what)
 {
-    if (by == DOUBLES) return 1;
+    if (by == DOUBLES) return !of_files(what);
+    if (of_files(what)) return ways[by].read != 0;
     if (what == POLE) return ways[by].pole != 0;
     if (what == SET || what == MOVE) return ways[by].set != 0;
     return what != TWINS || !ways[by].version || ways[by].version() >= 4001000;
@@ -110,6 +126,12 @@ static void call(int what, int by)
         answer = ways[by].own(n, c, size, s, size, lines, lines_length, phases);
     } else if (what == POLE) {
         answer = ways[by].pole(n, c, size, s, size, xp, yp, choice);
+    } else if (what == WRITE) {
+        answer = ways[by].write(n, c_given, size, s_given, size, given.constant, given.radius, given.system, out, out_length, &written);
+    } else if (what == READ) {
+        answer = ways[by].read(text, text_length, c, size, s, size, &told.degree, &told.constant, &told.radius, &told.system);
+    } else if (what == HEAD) {
+        answer = ways[by].head(text, text_length, &told.degree, &told.constant, &told.radius, &told.system);
     } else {
         answer = ways[by].ocean(n, c, size, s, size, sheet, length, phases, choice);
     }
@@ -309,7 +331,133 @@ static surfgimlet_body any_body(double ratio, double least, double most)
     return (surfgimlet_body){by * sqrt(size) > 2 ? SURFGIMLET_RECTANGULAR : SURFGIMLET_DIRECTION, ratio, d[0] * by, d[1] * by, d[2] * by, r};
 }
 
-/* ---- best.c held to the unit, and the earlier archive compared with it */
+/* ---- files */
+
+/* a field of this degree, of the sizes that a real one's coefficients have, and what its file says beside it */
+static void make_field(uint32_t degree)
+{
+    size_t i = 0;
+    n = degree;
+    for (uint32_t l = 0; l <= degree; l++)
+        for (uint32_t m = 0; m <= l; m++, i++) {
+            int64_t most = INT64_C(10000000000) / (l * l + 1);
+            c_given[i] = within(most);
+            s_given[i] = m ? within(most) : 0;
+        }
+    given = (saying){any(UINT64_C(1) << 50), any(UINT64_C(1) << 40), degree, (uint32_t)any(3)};
+    out_length = SURFGIMLET_FILE_BYTES(degree);
+}
+
+static void add(const char *format, ...)
+{
+    va_list values;
+    va_start(values, format);
+    text_length += (size_t)vsnprintf((char *)text + text_length, sizeof text - text_length, format, values);
+    va_end(values);
+}
+
+/* eight entries, begun with any of them; the one at fault, of 0..7, is left out or comes twice */
+static void add_header(const char *end, int fault)
+{
+    static const char *const systems[4] = {"tide_free", "zero_tide", "mean_tide", "tide-free"};
+    for (uint64_t k = 0, first = any(8); k < 8; k++) {
+        int entry = (int)((first + k) % 8), times = entry == fault ? 2 * (int)any(2) : 1;
+        for (; times; times--)
+            switch (entry) {
+            case 0: add("product_type gravity_field%s", end); break;
+            case 1: add("modelname x%s", end); break;
+            case 2: add("%sgravity_constant\t%llu%s", any(2) ? "earth_" : "", (unsigned long long)given.constant, end); break;
+            case 3: add("radius %.3f%s", (double)given.radius * 1e-3, end); break;
+            case 4: add("max_degree %u%s", given.degree, end); break;
+            case 5: add("errors formal%s", end); break;
+            case 6: add("norm fully_normalized%s", end); break;
+            case 7: add("tide_system %s%s", systems[given.system], end); break;
+            }
+    }
+}
+
+/* twelve digits, or one in a hundred an exact half of a count */
+static void add_coefficient(int64_t count)
+{
+    if (any(100)) add("\t%.11E", (double)count * 1e-15);
+    else add("\t%lld5E-16", (long long)count);
+}
+
+/* The field's file as others publish them: exponents with this letter, two columns of errors, lines that end so; one line in fifty is left out. The errors are
+ * short, so that a file of degree 60 has at most 131,072 bytes. */
+static void make_published(uint8_t letter, const char *end, int fault)
+{
+    size_t i = 0, from;
+    text_length = 0;
+    if (any(2)) add("radius of what stands before: comment%sbegin_of_head%s", end, end);
+    add_header(end, fault);
+    add("end_of_head ==%s", end);
+    from = text_length;
+    for (uint32_t l = 0; l <= n; l++)
+        for (uint32_t m = 0; m <= l; m++, i++) {
+            if (!any(50)) continue;
+            add("gfc %u %u", l, m);
+            add_coefficient(c_given[i]);
+            add_coefficient(s_given[i]);
+            add(" 1.2E-11 3.4E-11%s", end);
+        }
+    for (; from < text_length; from++) if (text[from] == 'E') text[from] = letter;
+}
+
+enum { WRITTEN, PUBLISHED };
+
+static void make_text(uint32_t style)
+{
+    size_t size = size_of(n);
+    if (style == PUBLISHED) make_published('E', "\n", -1);
+    else answer = surfgimlet_write_field(n, c_given, size, s_given, size, given.constant, given.radius, given.system, text, sizeof text, &text_length);
+}
+
+/* lines behind the last one: places that are there or above the degree, values in range or far out of it */
+static void add_lines(void)
+{
+    for (uint64_t k = 1 + any(3); k; k--) {
+        uint32_t l = (uint32_t)(any(3) ? any(n + 1) : 60 + any(3));
+        add("gfc %u %u %s 0\n", l, any(2) ? l : 0, any(3) ? "1" : any(2) ? "-2e3" : "1D400");
+    }
+}
+
+/* up to three bytes made others that numbers, words and lines have, or 0 */
+static void change_bytes(void)
+{
+    static const char bytes[] = "0123456789.+-eEdDxXnaig \t\n\r\v_";
+    for (uint64_t k = 1 + any(3); k; k--) text[any(text_length)] = (uint8_t)bytes[any(sizeof bytes)];
+}
+
+/* a file to be read: one in four as the unit writes it, the others as published; each fault in some */
+static void make_any_text(void)
+{
+    int fault = any(16) ? -1 : (int)any(8);
+    if (!any(4)) {
+        make_text(WRITTEN);
+    } else {
+        if (!any(8)) given.degree = (uint32_t)(any(2) ? 61 + any(3) : any(64));
+        if (!any(8)) given.system = 3;
+        if (!any(8)) (any(2) ? c_given : s_given)[any(size_of(n))] = (any(2) ? 1 : -1) * ((int64_t)1 << (61 + any(2)));
+        make_published(any(4) ? 'E' : 'D', any(2) ? "\n" : "\r\n", fault);
+    }
+    if (!any(8)) add_lines();
+    if (!any(8)) change_bytes();
+    if (!any(32)) text_length = any(text_length);
+    if (!any(64)) { memset(text + text_length, ' ', sizeof text - text_length); text_length = 131072 + any(2); }
+}
+
+/* a field to be written, with entries of every size; each fault in some */
+static void make_any_field(void)
+{
+    for (int k = 0; k < 4; k++) c_given[k] = within((int64_t)1 << (30 + 10 * k));
+    if (!any(8)) (any(2) ? c_given : s_given)[any(size_of(n))] = (any(2) ? 1 : -1) * (((int64_t)1 << 60) + within(1));
+    if (!any(8)) out_length -= any(2);
+    if (!any(16)) given.system = 3;
+    if (!any(16)) n = any(2) ? 3 : 61;
+}
+
+/* ---- best.c and files.c held to the unit, and the earlier archive compared with it */
 
 static long earlier_compared, earlier_differs;
 
@@ -359,6 +507,96 @@ static uint32_t hold(int what)
         }
     }
     return unit;
+}
+
+static int near(int64_t x, int64_t y)
+{
+    uint64_t apart = x < y ? (uint64_t)y - (uint64_t)x : (uint64_t)x - (uint64_t)y, size = x < 0 ? -(uint64_t)x : (uint64_t)x;
+    return apart <= 1 + (size >> 51);
+}
+
+static long counts_read, counts_apart;
+
+/* whether both lists are near the unit's */
+static int as_read(const int64_t *c_unit, const int64_t *s_unit)
+{
+    int all = 1;
+    for (size_t k = 0; k < SIZE; k++) {
+        all &= near(c_unit[k], c[k]) & near(s_unit[k], s[k]);
+        counts_apart += (c[k] != c_unit[k]) + (s[k] != s_unit[k]);
+    }
+    return all;
+}
+
+static int as_told(saying unit)
+{
+    return told.degree == unit.degree && told.system == unit.system && near((int64_t)unit.constant, (int64_t)told.constant)
+        && near((int64_t)unit.radius, (int64_t)told.radius);
+}
+
+/* The unit's answer, which files.c's is, with the same text. What it reads is near the unit's: a count may be one beside it, and where it has more than 51 bits
+ * as much more as a double of its size leaves open. */
+static uint32_t hold_file(int what)
+{
+    static int64_t c_before[SIZE], s_before[SIZE], c_unit[SIZE], s_unit[SIZE];
+    static uint8_t out_before[sizeof out], out_unit[sizeof out];
+    saying told_before = told, told_unit;
+    size_t written_before = written, written_unit;
+    uint32_t unit;
+    memcpy(c_before, c, sizeof c);
+    memcpy(s_before, s, sizeof s);
+    memcpy(out_before, out, sizeof out);
+    call(what, 0);
+    unit = answer;
+    told_unit = told;
+    written_unit = written;
+    memcpy(c_unit, c, sizeof c);
+    memcpy(s_unit, s, sizeof s);
+    memcpy(out_unit, out, sizeof out);
+    for (int by = 1; by < WAYS; by++) {
+        int same;
+        if (!has(by, what)) continue;
+        memcpy(c, c_before, sizeof c);
+        memcpy(s, s_before, sizeof s);
+        memcpy(out, out_before, sizeof out);
+        told = told_before;
+        written = written_before;
+        call(what, by);
+        same = answer == unit && written == written_unit && !memcmp(out, out_unit, sizeof out);
+        if (by == EARLIER) {
+            earlier_compared++;
+            earlier_differs += !(same && !memcmp(&told, &told_unit, sizeof told) && !memcmp(c, c_unit, sizeof c) && !memcmp(s, s_unit, sizeof s));
+            continue;
+        }
+        if (what == READ && !unit) counts_read += 2 * (long)size_of(n);
+        if (!same || !as_told(told_unit) || !as_read(c_unit, s_unit)) {
+            printf("files.c by %s differs from the unit: call %d, N = %u, answers %u and %u, degrees %u and %u, of the text\n%.*s\n", ways[by].name, what, n,
+                   answer, unit, told.degree, told_unit.degree, (int)text_length, (const char *)text);
+            exit(1);
+        }
+    }
+    return unit;
+}
+
+/* a third of the calls of each kind; some have two things at fault, so that the order shows */
+static void hold_files(void)
+{
+    static const uint32_t degrees[5] = {4, 5, 6, 12, 60}, numbers[] = {0, 1, 2, 17, 18, 19, 20, 21, 100};
+    long refused[101] = {0};
+    for (long i = 0; i < FILES; i++) {
+        int what = WRITE + (int)(i % 3);
+        make_field(degrees[any(50) ? any(4) : 4]);
+        if (what == WRITE) make_any_field();
+        else make_any_text();
+        if (what == READ && !any(16)) n = any(2) ? 4 : 12;
+        refused[hold_file(what)]++;
+    }
+    for (size_t k = 0; k < sizeof numbers / sizeof *numbers; k++)
+        if (!refused[numbers[k]]) { printf("files.c: no call was answered %u\n", numbers[k]); exit(1); }
+    printf("files.c: the unit's answers and texts on %d calls; of the counts read %ld in %ld are another, next to the unit's; answered", FILES, counts_apart,
+           counts_read);
+    for (int i = 0; i <= 100; i++) if (refused[i]) printf(" %d: %ld", i, refused[i]);
+    puts("");
 }
 
 /* one thing at fault, where the call reads it: an entry, a float of a body, a byte of the sheet, its length, the Moon's mass, a record, the selection,
@@ -425,6 +663,7 @@ static void hold_all(void)
         if (!has(EARLIER, POLE)) printf(", the pole tide's left out, since it has none");
         if (!has(EARLIER, SET)) printf(", the hour's left out, since it keeps none");
         if (!has(EARLIER, TWINS)) printf(", those refused with 16 left out, since it accepts twin lines");
+        if (!has(EARLIER, READ)) printf(", those of files left out, since it knows none");
     }
     puts("\n");
 }
@@ -468,7 +707,8 @@ static double best_c(const double *best, const char **by)
 typedef struct { const char *name; int what; int lines, tides, places; uint32_t n, choice; double of_c, of_doubles, of_earlier; int epochs; } row;
 
 /* lines are a sheet's, own ones, or those that the solid tide's selection names; of_c, of_doubles and of_earlier, which is of an archive that accepts twin
- * lines, are the ratios to reach, 0 where none is set; the choice of a move is its argument */
+ * lines, are the ratios to reach, 0 where none is set; the choice of a move is its argument,
+ * that of a file its style */
 static const row rows[] = {
     {"ocean 128/32/90", OCEAN, 128, 32, 90, 12, 0, 1.10, 0.90, 1.125, ONE},
     {"ocean 128/32/90", OCEAN, 128, 32, 90, 60, 0, 1.10, 0, 1.125, ONE},
@@ -510,6 +750,12 @@ static const row rows[] = {
     {"pole tide, anelastic", POLE, 0, 0, 0, 12, 1, 0, 0, 0, ONE},
     {"pole tide, anelastic", POLE, 0, 0, 0, 60, 1, 0, 0, 0, ONE},
     {"pole tide, elastic", POLE, 0, 0, 0, 12, 0, 0, 0, 0, ONE},
+    {"write field", WRITE, 0, 0, 0, 12, 0, 0, 0, 0, ONE},
+    {"write field", WRITE, 0, 0, 0, 60, 0, 0, 0, 0, ONE},
+    {"read field, as written", READ, 0, 0, 0, 12, WRITTEN, 0, 0, 0, ONE},
+    {"read field, as written", READ, 0, 0, 0, 60, WRITTEN, 0, 0, 0, ONE},
+    {"read field, as published", READ, 0, 0, 0, 60, PUBLISHED, 0, 0, 0, ONE},
+    {"file head, as published", HEAD, 0, 0, 0, 60, PUBLISHED, 0, 0, 0, ONE},
 };
 
 /* a ratio beside the one to reach */
@@ -532,25 +778,29 @@ static void compare(const row *r)
     if (r->what == OWN) make_lines(r->lines);
     if (r->what == SOLID || r->what == ANEW) make_selection(r->lines);
     if (r->what == MOVE) make_move(r->choice);
+    if (of_files(r->what)) { make_field(r->n); make_text(r->choice); }
     make_epochs(r->epochs);
     memset(c, 0, sizeof c);
     memset(s, 0, sizeof s);
-    answer = unit = hold(r->what);
-    call(r->what, DOUBLES);
-    if (answer != unit || (unit == 16) != (r->what == TWINS)) { printf("%s: the unit answers %u, doubles %u\n", r->name, unit, answer); exit(1); }
+    answer = unit = of_files(r->what) ? hold_file(r->what) : hold(r->what);
+    if (has(DOUBLES, r->what)) call(r->what, DOUBLES);
+    if (answer != unit || (unit == 16) != (r->what == TWINS) || of_files(r->what) && unit) { printf("%s: the unit answers %u, doubles %u\n", r->name, unit, answer); exit(1); }
     for (int k = 0; k < ROUNDS; k++)
         for (int i = 0; i <= WAYS; i++) if (has(i, r->what)) time_once(r->what, i, &best[i]);
     c_time = best_c(best, &by);
     printf("| %s |", r->name);
     if (n) printf(" %u", n);
-    printf(" | %.0f | %.0f %s | %.0f |", best[0], c_time, by, best[DOUBLES]);
+    printf(" | %.0f | %.0f %s |", best[0], c_time, by);
+    if (has(DOUBLES, r->what)) printf(" %.0f |", best[DOUBLES]);
+    else printf(" |");
     put_ratio(best[0] / c_time, r->of_c);
-    put_ratio(best[0] / best[DOUBLES], r->of_doubles);
-    if (!has(EARLIER, r->what)) {
-        printf(" | | |");
-    } else if (EARLIER < WAYS) {
+    if (has(DOUBLES, r->what)) put_ratio(best[0] / best[DOUBLES], r->of_doubles);
+    else printf(" | |");
+    if (EARLIER < WAYS && has(EARLIER, r->what)) {
         printf(" %.0f |", best[EARLIER]);
         put_ratio(best[0] / best[EARLIER], has(EARLIER, TWINS) ? 0 : r->of_earlier);
+    } else if (EARLIER < WAYS) {
+        printf(" | | |");
     }
     puts("");
 }
@@ -585,6 +835,7 @@ int main(void)
     static const int by_place[4][4] = {{64, 8, 0, 12}, {64, 8, 30, 12}, {64, 8, 60, 12}, {64, 8, 90, 12}};
     static const int by_own[4][4] = {{8, 0, 0, 12}, {16, 0, 0, 12}, {32, 0, 0, 12}, {64, 0, 0, 12}};
     static const int by_entry[4][4] = {{49, 0, 0, 4}, {49, 0, 0, 12}, {49, 0, 0, 30}, {49, 0, 0, 60}};
+    hold_files();
     hold_all();
     one = any_epoch();
     moon = (surfgimlet_body){SURFGIMLET_DIRECTION, 0.0123, 0.6, 0.48, 0.64, 3.8e8};
