@@ -1,10 +1,12 @@
 /* Surfgimlet: tide corrections to the coefficients of a gravity field, and the permanent tide of C20, after the IERS
- * Conventions (1996), Technical Note 21, chapter 6, and the Graz synthesis for the ocean. For x86-64 Linux; C99 or C++.
+ * Conventions (1996), Technical Note 21, chapter 6, and the Graz synthesis for the ocean; and gravity field files after
+ * ICGEM. For x86-64 Linux; C99 or C++.
  *
  * A count is 10^-15. A field of degree n (4 to 60) is two lists of counts, c and s, of (n+1)(n+2)/2 entries each, the
- * fully normalized coefficient of degree l and order m at l(l+1)/2 + m, every entry from -2^60 to 2^60. A call adds its
- * corrections to what it is lent. Entries that a rule does not name, and S of order 0, keep their values. An accepted
- * call leaves the sum even where that lies outside the range; the next call on that field then answers 2.
+ * fully normalized coefficient of degree l and order m at l(l+1)/2 + m, every entry from -2^60 to 2^60. A tide's call adds
+ * its corrections to what it is lent. Entries that a rule does not name, and S of order 0, keep their values. An accepted
+ * call leaves the sum even where that lies outside the range; the next call on that field then answers 2. Reading a file
+ * sets every entry, S of order 0 too.
  *
  * A correction is a whole number of counts, the nearest, an exact half going away from zero. So amplitudes of own lines,
  * coefficients of a sheet or offsets of the pole, given with the other sign, give each correction with the other sign.
@@ -14,7 +16,7 @@
  * tide: compilers that can warn of it do. The three calls that answer an hour are marked too, since one that nobody takes is
  * lost.
  *
- * No call allocates, locks, keeps anything between calls, writes a file or fails to return; calls on different memory may
+ * No call allocates, locks, keeps anything between calls, opens a file or fails to return; calls on different memory may
  * run at the same time.
  *
  * What the caller owes, and no call can test:
@@ -32,7 +34,7 @@
 #include <stdint.h>
 
 /* major * 1,000,000 + minor * 1,000 + patch; surfgimlet_version answers that of the library. */
-#define SURFGIMLET_VERSION 4001000
+#define SURFGIMLET_VERSION 4002000
 
 /* Where the compiler can, it warns of an answer that is not used. */
 #if defined(__cplusplus) && __cplusplus >= 201703L
@@ -61,6 +63,11 @@
 #define SURFGIMLET_SELECTION_VALUE 14u
 #define SURFGIMLET_POLE_OFFSET 15u
 #define SURFGIMLET_TWIN_LINES 16u
+#define SURFGIMLET_FILE_FORM 17u
+#define SURFGIMLET_TWIN_PLACES 18u
+#define SURFGIMLET_FILE_RANGE 19u
+#define SURFGIMLET_NO_SUCH_SYSTEM 20u
+#define SURFGIMLET_SHORT_OUTPUT 21u
 #define SURFGIMLET_NO_SUCH_CHOICE 100u
 
 static inline const char *surfgimlet_words(uint32_t answer)
@@ -83,6 +90,11 @@ static inline const char *surfgimlet_words(uint32_t answer)
     case SURFGIMLET_SELECTION_VALUE: return "the selection has a bit above 48, which stands for no line";
     case SURFGIMLET_POLE_OFFSET: return "a pole offset is outside -1,000,000..1,000,000 micro-arcseconds";
     case SURFGIMLET_TWIN_LINES: return "two lines of the sheet have the same six multipliers";
+    case SURFGIMLET_FILE_FORM: return "the file is malformed, or an entry of its header is missing or repeated";
+    case SURFGIMLET_TWIN_PLACES: return "two lines of the file have the same place";
+    case SURFGIMLET_FILE_RANGE: return "the file's degree or a value is out of range";
+    case SURFGIMLET_NO_SUCH_SYSTEM: return "the file names no known tide system";
+    case SURFGIMLET_SHORT_OUTPUT: return "the output is too small";
     case SURFGIMLET_NO_SUCH_CHOICE: return "a choice, a body's kind or an argument is none of its numbers";
     default: return "no answer of this unit";
     }
@@ -104,6 +116,9 @@ static inline const char *surfgimlet_words(uint32_t answer)
 #define SURFGIMLET_P 3u
 #define SURFGIMLET_NP 4u
 #define SURFGIMLET_PS 5u
+
+/* The bytes of a field of degree n as surfgimlet_write_field writes it: 102,600 at n = 60. */
+#define SURFGIMLET_FILE_BYTES(n) ((size_t)54 * (9 + ((size_t)(n) + 1) * ((size_t)(n) + 2) / 2))
 
 #ifdef __cplusplus
 extern "C" {
@@ -240,6 +255,51 @@ SURFGIMLET_ANSWER uint32_t surfgimlet_number_of(const int32_t multipliers[6], ui
  * in 100 counts: elastic and anelastic, in phase and out of phase, or a semidiurnal one twice.
  * Refused: 10; 11. */
 SURFGIMLET_ANSWER uint32_t surfgimlet_find_line(uint32_t number, size_t *index, int64_t *first, int64_t *second);
+
+/* Gravity field files: ICGEM's, of product type gravity_field, as bytes in memory. A line ends with LF, CR or both; words
+ * stand between blanks, which are spaces and tabs; a line without a word is passed over.
+ *
+ * The header is what stands before the first line that begins with end_of_head; where a line of it begins with
+ * begin_of_head, once at most, what stands after that. Its entries, each at most once, are a keyword and a value:
+ *   product_type gravity_field; max_degree, a whole number; earth_gravity_constant or gravity_constant, in m3/s2; radius,
+ *   in metres: all required;
+ *   norm fully_normalized, modelname and errors: not required, the values of the last two not looked at;
+ *   tide_system tide_free, zero_tide or mean_tide: any other is refused with 20, and so is none.
+ * Other lines and the words behind a value are passed over. Constant and radius are rounded to the nearest whole m3/s2 and
+ * millimetre; outside 0..2^64 - 1 they are malformed.
+ *
+ * Each line after the header is gfc, degree, order, C, S and 0, 2 or 4 words more, which are passed over; the degree is at
+ * most max_degree, the order at most the degree. A decimal may have a sign, a dot and an exponent, its letter E, e, D or d;
+ * it is taken exactly, however long, and rounded once to the nearest, an exact half going away from zero. */
+
+/* A field's text: 9 lines of header and one for each place by rising degree, then order, each coefficient with all its 15
+ * decimals. Every line has 53 characters and a line feed. Read again it gives the same counts and the same four numbers.
+ * Given: a field in counts, n its degree, the lengths in entries; the gravity constant in m3/s2; the radius in millimetres;
+ * the permanent system that the field is in; an output and its length in bytes.
+ * Done: the text stands at the output's start, without a zero byte behind it; every byte after it stays.
+ * Answered: in *written, the text's length, SURFGIMLET_FILE_BYTES(n).
+ * Refused: 100; 1, 2; 21. */
+SURFGIMLET_ANSWER uint32_t surfgimlet_write_field(uint32_t n, const int64_t *c, size_t c_length, const int64_t *s, size_t s_length,
+                                                  uint64_t constant, uint64_t radius, uint32_t system, uint8_t *out,
+                                                  size_t out_length, size_t *written);
+
+/* A file's degree, without the lists: which lists surfgimlet_read_field is to be lent.
+ * Given: a file and its length in bytes, at most 131,072; more is malformed.
+ * Answered: the degree, the gravity constant in m3/s2, the radius in millimetres and the permanent system.
+ * Refused: 17, 18, 19, 20, each told from the whole file, as by surfgimlet_read_field. */
+SURFGIMLET_ANSWER uint32_t surfgimlet_file_head(const uint8_t *text, size_t text_length, uint32_t *degree, uint64_t *constant,
+                                                uint64_t *radius, uint32_t *system);
+
+/* A file read into a field.
+ * Given: a file and its length in bytes, at most 131,072; two lists of the file's degree, the lengths in entries, of which
+ * nothing is read.
+ * Done: every entry of both lists is set: to the nearest count of its line's C and S, or to 0 where the file has no line of
+ * its place.
+ * Answered: the degree, the gravity constant in m3/s2, the radius in millimetres and the permanent system.
+ * Refused: 17, 18, 19, 20; 1. */
+SURFGIMLET_ANSWER uint32_t surfgimlet_read_field(const uint8_t *text, size_t text_length, int64_t *c, size_t c_length, int64_t *s,
+                                                 size_t s_length, uint32_t *degree, uint64_t *constant, uint64_t *radius,
+                                                 uint32_t *system);
 
 #ifdef __cplusplus
 }
