@@ -105,6 +105,104 @@ static void twins(void)
     expect("a place of the field", ocean(sheet, sizeof sheet), SURFGIMLET_ACCEPTED);
 }
 
+static int64_t file_c[15], file_s[15];
+static uint8_t file[SURFGIMLET_FILE_BYTES(4) + 1];
+
+/* a field whose entries tell their places, written; its text, the bytes behind it, and the order of the refusals, which touch nothing */
+static void written(void)
+{
+    const size_t length = SURFGIMLET_FILE_BYTES(4);
+    const uint64_t most = 18446744073709551615u;
+    const char *head = "product_type                            gravity_field\nmodelname                                  surfgimlet\n"
+        "earth_gravity_constant                398600441500000\nradius                                    6378136.300\n"
+        "max_degree                                          4\nerrors                                             no\n"
+        "norm                                 fully_normalized\ntide_system                                 zero_tide\n"
+        "end_of_head =========================================\ngfc  0  0  1152.921504606846976     0.000000000000000\n"
+        "gfc  1  0     0.000000000000001    -0.000000000000600\n";
+    size_t told = 99;
+    for (int i = 0; i < 15; i++) { file_c[i] = i; file_s[i] = -600 * i; }
+    file_c[0] = (int64_t)1 << 60;
+    memset(file, '#', sizeof file);
+    file_s[14] = -file_c[0] - 1;
+    expect("a system 3", surfgimlet_write_field(3, file_c, 15, file_s, 15, 0, 0, 3, file, 0, &told), SURFGIMLET_NO_SUCH_CHOICE);
+    expect("a degree 3", surfgimlet_write_field(3, file_c, 15, file_s, 15, 0, 0, 2, file, 0, &told), SURFGIMLET_FIELD_SHAPE);
+    expect("an entry beyond", surfgimlet_write_field(4, file_c, 15, file_s, 15, 0, 0, 2, file, 0, &told), SURFGIMLET_FIELD_RANGE);
+    file_s[14]++;
+    expect("no output", surfgimlet_write_field(4, file_c, 15, file_s, 15, 0, 0, 2, NULL, 0, &told), SURFGIMLET_SHORT_OUTPUT);
+    expect("a byte too few", surfgimlet_write_field(4, file_c, 15, file_s, 15, 0, 0, 2, file, length - 1, &told), SURFGIMLET_SHORT_OUTPUT);
+    for (size_t i = 0; i < sizeof file; i++) expect("a byte kept", file[i], '#');
+    expect("the length kept", (uint32_t)told, 99u);
+    expect("the largest numbers", surfgimlet_write_field(4, file_c, 15, file_s, 15, most, most, 0, file, length, &told), SURFGIMLET_ACCEPTED);
+    expect("their lines", memcmp(file + 141, "18446744073709551615\nradius                          18446744073709551.615\n", 75) == 0 ? 0u : 1u, 0u);
+    expect("a field written", surfgimlet_write_field(4, file_c, 15, file_s, 15, 398600441500000u, 6378136300u, SURFGIMLET_ZERO_TIDE, file, sizeof file, &told),
+           SURFGIMLET_ACCEPTED);
+    expect("its length", (uint32_t)told, 1296u);
+    expect("its start", memcmp(file, head, 11 * 54) == 0 ? 0u : 1u, 0u);
+    expect("its last line", memcmp(file + length - 54, "gfc  4  4     0.000000000000014 -1152.921504606846976\n", 54) == 0 ? 0u : 1u, 0u);
+    expect("the byte behind it", file[length], '#');
+    expect("the length at 60", (uint32_t)SURFGIMLET_FILE_BYTES(60), 102600u);
+}
+
+#ifdef READING
+typedef struct {
+    int64_t c[21], s[21];
+    uint32_t degree, system;
+    uint64_t constant, radius;
+} read_again;
+
+static uint32_t read_text(const uint8_t *text, size_t length, size_t entries, read_again *into)
+{
+    return surfgimlet_read_field(text, length, into->c, entries, into->s, entries, &into->degree, &into->constant, &into->radius, &into->system);
+}
+
+static uint32_t head_of(const uint8_t *text, size_t length, read_again *into)
+{
+    return surfgimlet_file_head(text, length, &into->degree, &into->constant, &into->radius, &into->system);
+}
+
+/* a text of one's own: refused by both calls with the same number, or for its lists alone, and nothing touched */
+static void refused(const char *text, uint32_t wanted)
+{
+    read_again got, kept;
+    memset(&got, 0x5a, sizeof got);
+    memset(&kept, 0x5a, sizeof kept);
+    expect(text, read_text((const uint8_t *)text, strlen(text), 14, &got), wanted);
+    expect("what was lent", memcmp(&got, &kept, sizeof got) == 0 ? 0u : 1u, 0u);
+    expect("its head", head_of((const uint8_t *)text, strlen(text), &got), wanted == SURFGIMLET_FIELD_SHAPE ? SURFGIMLET_ACCEPTED : wanted);
+}
+
+#define HEAD(degree) "product_type gravity_field\nradius 6378136.3\ngravity_constant 3.986004415D+14\nmax_degree " degree "\n"
+#define TIDE "tide_system zero_tide\n"
+
+/* what was written, read again; the order of the refusals; halves, the exponent's letters, S of order 0 and a place that no line has */
+static void reading(void)
+{
+    const char *own = "a comment\rbegin_of_head\r\nunknown 1\n" HEAD("5") TIDE "end_of_head =\n\ngfc 2 0 -0.5D-15 1152.921504606846976 .1 .2\n\tgfc 05 5 5e-16 -4.9E-16";
+    read_again got;
+    memset(&got, 0, sizeof got);
+    expect("a file's head", head_of(file, SURFGIMLET_FILE_BYTES(4), &got), SURFGIMLET_ACCEPTED);
+    expect("its four numbers", got.degree == 4 && got.constant == 398600441500000u && got.radius == 6378136300u && got.system == SURFGIMLET_ZERO_TIDE ? 0u : 1u, 0u);
+    memset(&got, 0x5a, sizeof got);
+    expect("a file read", read_text(file, SURFGIMLET_FILE_BYTES(4), 15, &got), SURFGIMLET_ACCEPTED);
+    expect("its four numbers", got.degree == 4 && got.constant == 398600441500000u && got.radius == 6378136300u && got.system == SURFGIMLET_ZERO_TIDE ? 0u : 1u, 0u);
+    expect("its lists", memcmp(got.c, file_c, sizeof file_c) == 0 && memcmp(got.s, file_s, sizeof file_s) == 0 ? 0u : 1u, 0u);
+    expect("no file", read_text(NULL, 0, 15, &got), SURFGIMLET_FILE_FORM);
+    refused(HEAD("61") "end_of_head\ngfc 61 0 1e9 0\ngfc 61 00 0 0\ngfct 0 0 1 0\n", SURFGIMLET_FILE_FORM);
+    refused(HEAD("61") "end_of_head\ngfc 61 0 1e9 0\ngfc 61 00 0 0\n", SURFGIMLET_TWIN_PLACES);
+    refused(HEAD("61") "end_of_head\n", SURFGIMLET_FILE_RANGE);
+    refused(HEAD("60") "end_of_head\ngfc 0 0 1 -1152.9215046068469765\n", SURFGIMLET_FILE_RANGE);
+    refused(HEAD("60") "end_of_head\n", SURFGIMLET_NO_SUCH_SYSTEM);
+    refused(HEAD("4") TIDE "end_of_head\n", SURFGIMLET_FIELD_SHAPE);
+    memset(&got, 0x5a, sizeof got);
+    expect("a file of one's own", read_text((const uint8_t *)own, strlen(own), 21, &got), SURFGIMLET_ACCEPTED);
+    expect("its head", got.degree == 5 && got.radius == 6378136300u ? 0u : 1u, 0u);
+    for (int i = 0; i < 21; i++) {
+        expect("an entry of C", got.c[i] == (i == 3 ? -1 : i == 20 ? 1 : 0) ? 0u : 1u, 0u);
+        expect("an entry of S", got.s[i] == (i == 3 ? (int64_t)1 << 60 : 0) ? 0u : 1u, 0u);
+    }
+}
+#endif
+
 int main(void)
 {
     const int64_t end = (int64_t)1 << 60;
@@ -119,6 +217,10 @@ int main(void)
     expect("the version", surfgimlet_version(), SURFGIMLET_VERSION);
     hours(day);
     twins();
+    written();
+#ifdef READING
+    reading();
+#endif
 
     /* with length 0 a null pointer is welcome */
     expect("no lists", surfgimlet_solid_tide(4, NULL, 0, NULL, 0, moon, sun, SURFGIMLET_ANELASTIC, surfgimlet_start_hour(), 0, &named), SURFGIMLET_FIELD_SHAPE);
