@@ -3,7 +3,7 @@
 #include <inttypes.h>
 #include <stdio.h>
 #include <stdlib.h>
-#include <sys/mman.h>
+#include "draw.h"
 #include "lent.h"
 #include "model.h"
 
@@ -23,75 +23,7 @@ static const char *events[EVENTS] = {"the Moon's kind before 1 or 2", "the Sun's
 static long met[EVENTS];
 static const char *rounded[ROUNDINGS] = {"step one", "step two", "own lines", "the pole tide", "a tide's factors", "the ocean tide"};
 
-/* xorshift64*, the seed fixed */
-static uint64_t state = UINT64_C(0x9e3779b97f4a7c15);
-
-static uint64_t any(void)
-{
-    state ^= state >> 12; state ^= state << 25; state ^= state >> 27;
-    return state * UINT64_C(2685821657736338717);
-}
-
-static uint64_t below(uint64_t n) { return (any() >> 11) % n; }
-static int one_in(uint64_t n) { return below(n) == 0; }
-static int64_t within(int64_t size) { return (int64_t)below(2 * (uint64_t)size + 1) - size; }
 static double unit(void) { return (double)(any() >> 11) * 0x1p-53; }
-
-static int64_t end(void) { return one_in(2) ? LIMIT : -LIMIT; }
-
-static int64_t entry(void)
-{
-    switch (below(8)) {
-    case 0: return 0;
-    case 1: return LIMIT;
-    case 2: return -LIMIT;
-    case 3: return within(LIMIT);
-    default: return within(INT64_C(1) << (1 + below(60)));
-    }
-}
-
-static int64_t bad_entry(void)
-{
-    static const int64_t bad[] = {LIMIT + 1, -LIMIT - 1, INT64_MAX, INT64_MIN, 2 * LIMIT};
-    return bad[below(5)];
-}
-
-static uint32_t no_choice(uint32_t cases)
-{
-    const uint32_t bad[] = {cases + 1, cases + 2, 255, 256, 0x10000, 0x80000000, 0x80000001, 0xffffffff};
-    return one_in(2) ? cases : bad[below(8)];
-}
-
-static uint32_t choice(uint32_t cases) { return one_in(40) ? no_choice(cases) : (uint32_t)below(cases); }
-
-/* degree and lists: one in eight with a fault, one in eight with every entry at an end of the range */
-static uint32_t field(lent *c, lent *s)
-{
-    uint32_t n = one_in(50) ? 4 + (uint32_t)below(57) : 4 + (uint32_t)below(10);
-    size_t c_length, s_length;
-    int ends;
-    if (one_in(64)) n = one_in(2) ? 3 : 61; /* with lists of that degree's length */
-    c_length = s_length = model_size(n);
-    switch (below(64)) {
-    case 0: c_length--; break;
-    case 1: s_length--; break;
-    case 2: c_length++; break;
-    case 3: s_length++; break;
-    case 4: n = one_in(2) ? 3 : 61; break;
-    case 5: n = (uint32_t)any(); break;
-    case 6: c_length = below(LONGEST); s_length = below(LONGEST); break;
-    case 7: c_length = s_length = 0; break;
-    }
-    lend(c, c_length); lend(s, s_length);
-    ends = one_in(8);
-    for (size_t i = 0; i < c_length; i++) entries(c)[i] = ends ? end() : entry();
-    for (size_t i = 0; i < s_length; i++) entries(s)[i] = ends ? end() : entry();
-    if (one_in(16) && c_length && s_length) {
-        if (one_in(2)) entries(c)[one_in(3) ? c_length - 1 : below(c_length)] = bad_entry();
-        else entries(s)[one_in(3) ? s_length - 1 : below(s_length)] = bad_entry();
-    }
-    return n;
-}
 
 static uint32_t phase(void) { return one_in(4) ? (uint32_t)below(16) << 28 : (uint32_t)any() - (one_in(8) ? 1 : 0); }
 
@@ -412,19 +344,6 @@ static size_t tie_sheet(uint8_t *out)
     *at++ = 2; *at++ = 2;
     for (uint64_t q = 0; q < 4 * tides; q++) at = put32(at, alike ? 1 << 24 : one_in(2) ? 0 : one_in(2) ? 1 << 24 : -(1 << 24));
     return (size_t)(at - out);
-}
-
-/* what a call reads ends at a page that may not be touched: a read past its end stops the run */
-static const void *at_the_edge(const void *bytes, size_t length)
-{
-    static uint8_t *edge;
-    const size_t page = 65536;
-    if (!edge) {
-        uint8_t *room = mmap(NULL, 3 * page, PROT_READ | PROT_WRITE, MAP_PRIVATE | MAP_ANONYMOUS, -1, 0);
-        if (room == MAP_FAILED || mprotect(room + 2 * page, page, PROT_NONE)) { puts("fuzz: no memory"); exit(1); }
-        edge = room + 2 * page;
-    }
-    return memcpy(edge - length, bytes, length);
 }
 
 static void expect(int call, uint32_t answer, uint32_t told, int as_told)

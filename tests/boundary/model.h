@@ -6,9 +6,8 @@
 #include <math.h>
 #include <stdlib.h>
 #include <string.h>
+#include "model_field.h"
 #include "surfgimlet.h"
-
-#define LIMIT (INT64_C(1) << 60)
 
 /* what is rounded; and how many exact halves were met of each, above and below zero */
 enum { OF_STEP_ONE, OF_STEP_TWO, OF_OWN_LINES, OF_POLE, OF_FACTORS, OF_PLACES, ROUNDINGS };
@@ -20,24 +19,6 @@ static int64_t model_nearest(int64_t x, int64_t n, int what)
     int64_t q = x / n, r = x % n;
     model_halves[what][x < 0] += 2 * r == n || 2 * r == -n;
     return q + (2 * r >= n) - (2 * r <= -n);
-}
-
-/* ---- the field */
-
-static size_t model_size(uint32_t n) { return (size_t)(n + 1) * (n + 2) / 2; }
-static size_t model_place(size_t n, size_t m) { return n * (n + 1) / 2 + m; }
-
-static int model_in_range(const int64_t *l, size_t length)
-{
-    for (size_t i = 0; i < length; i++)
-        if (l[i] < -LIMIT || l[i] > LIMIT) return 0;
-    return 1;
-}
-
-static uint32_t model_field(uint32_t n, const int64_t *c, size_t c_length, const int64_t *s, size_t s_length)
-{
-    if (n < 4 || n > 60 || c_length != model_size(n) || s_length != model_size(n)) return 1;
-    return model_in_range(c, c_length) && model_in_range(s, s_length) ? 0 : 2;
 }
 
 /* ---- Doodson numbers and the printed lines */
