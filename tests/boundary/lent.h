@@ -38,7 +38,7 @@ typedef struct {
     size_t count;
 } lent_records;
 
-static void lend_records(lent_records *l, size_t count)
+static inline void lend_records(lent_records *l, size_t count)
 {
     l->count = count;
     memset(&l->all[0], 0x5a, sizeof l->all[0]);
@@ -67,6 +67,16 @@ typedef struct {
     uint32_t g9;
     surfgimlet_hour hour;
     uint64_t g10;
+    size_t written;
+    uint64_t g11;
+    uint32_t degree;
+    uint32_t g12;
+    uint64_t constant;
+    uint64_t g13;
+    uint64_t radius;
+    uint64_t g14;
+    uint32_t system;
+    uint32_t g15;
 } results;
 
 static results fresh(void)
