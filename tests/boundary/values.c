@@ -6,13 +6,15 @@
 #include "surfgimlet.h"
 
 #define LEAST 32000 /* cases, so that an input cut short is noticed */
+#define MOST_BYTES 140000 /* of a sheet or a text */
 
 /* an hour is a call of its own: start, set and move, in any order */
-enum { SOLID_TIDE, OWN_LINES, POLE_TIDE, OCEAN_TIDE, MOVE_C20, MULTIPLIERS_OF, NUMBER_OF, FIND_LINE, HOUR, ALL_LINES, MAJOR_LINES, CALLS };
-static const char *names[CALLS] = {"solid_tide", "own_lines", "pole_tide", "ocean_tide", "move_c20", "multipliers_of", "number_of", "find_line", "hour",
-    "all_lines", "major_lines"};
+enum { SOLID_TIDE, OWN_LINES, POLE_TIDE, OCEAN_TIDE, WRITE_FIELD, MOVE_C20, MULTIPLIERS_OF, NUMBER_OF, FIND_LINE, HOUR, ALL_LINES, MAJOR_LINES, CALLS };
+static const char *names[CALLS] = {"solid_tide", "own_lines", "pole_tide", "ocean_tide", "write_field", "move_c20", "multipliers_of", "number_of",
+    "find_line", "hour", "all_lines", "major_lines"};
 static const int numbers[CALLS][10] = {{0, 1, 2, 3, 4, 5, 6, 14, 100, -1}, {0, 1, 2, 12, 13, -1},
-    {0, 1, 2, 15, 100, -1}, {0, 1, 2, 7, 8, 16, 9, 100, -1}, {0, 2, 100, -1}, {0, 10, -1}, {0, 10, -1}, {0, 10, 11, -1}, {0, 100, -1}, {0, -1}, {0, -1}};
+    {0, 1, 2, 15, 100, -1}, {0, 1, 2, 7, 8, 16, 9, 100, -1}, {0, 1, 2, 21, 100, -1}, {0, 2, 100, -1}, {0, 10, -1}, {0, 10, -1}, {0, 10, 11, -1},
+    {0, 100, -1}, {0, -1}, {0, -1}};
 static long answered[CALLS][101], cases, differences;
 
 static uint32_t n;
@@ -124,14 +126,15 @@ static void expect(int call, uint32_t answer, uint32_t number, int as_told)
     if (answer == number && as_told) return;
     if (differences++ < 20)
         printf("%s, case %ld: answered %" PRIu32 ", told %" PRIu32 "%s\n", names[call], cases, answer, number,
-               as_told ? "" : ", and an entry, a record, a result or a guard differs");
+               as_told ? "" : ", and an entry, a record, a byte, a result or a guard differs");
 }
 
-static size_t sheet(uint8_t *bytes)
+/* bytes, after how many there are */
+static size_t text(uint8_t *bytes)
 {
-    static char hex[200000];
+    static char hex[280001]; /* twice MOST_BYTES */
     size_t length = (size_t)word();
-    if (scanf("%199999s", hex) != 1) { puts("values: a sheet is missing"); exit(1); }
+    if (length > MOST_BYTES || scanf("%280000s", hex) != 1) { puts("values: a text is missing or too long"); exit(1); }
     for (size_t i = 0; i < length; i++) {
         char pair[3] = {hex[2 * i], hex[2 * i + 1], 0};
         bytes[i] = (uint8_t)strtoul(pair, NULL, 16);
@@ -161,7 +164,7 @@ static void over_field(int call)
         answer = surfgimlet_pole_tide(n, or_null(&c), c.length, or_null(&s), s.length, xp, yp, choice);
     } else {
         surfgimlet_phases b = phases();
-        size_t length = sheet(bytes);
+        size_t length = text(bytes);
         answer = surfgimlet_ocean_tide(n, or_null(&c), c.length, or_null(&s), s.length, length ? bytes : NULL, length, b, choice);
     }
     number = (uint32_t)word();
@@ -169,6 +172,23 @@ static void over_field(int call)
     change(&told_c); change(&told_s);
     expect(call, answer, number, same(&c, &told_c) && same(&s, &told_s) && !memcmp(&lines, &kept, sizeof lines) && same_results(&got, &told));
     memcpy(&c, &told_c, sizeof c); memcpy(&s, &told_s, sizeof s);
+}
+
+/* into an output between guards, every byte of which is compared */
+static void write_field(void)
+{
+    static uint8_t out[GUARD + MOST_BYTES + GUARD], wanted[sizeof out];
+    results got = fresh(), told = fresh();
+    uint32_t system = (uint32_t)word(), answer, number;
+    uint64_t constant = bits(), radius = bits();
+    size_t room = (size_t)word();
+    if (room > MOST_BYTES) { puts("values: too large an output"); exit(1); }
+    memset(out, '#', sizeof out); memset(wanted, '#', sizeof wanted);
+    answer = surfgimlet_write_field(n, or_null(&c), c.length, or_null(&s), s.length, constant, radius, system, room ? out + GUARD : NULL, room, &got.written);
+    number = (uint32_t)word();
+    if (number == 0) told.written = text(wanted + GUARD);
+    change(&told_c); change(&told_s);
+    expect(WRITE_FIELD, answer, number, same(&c, &told_c) && same(&s, &told_s) && !memcmp(out, wanted, sizeof out) && same_results(&got, &told));
 }
 
 static void an_hour(void)
@@ -231,6 +251,7 @@ int main(void)
         while (call < CALLS && strcmp(name, names[call])) call++;
         if (call == CALLS) { printf("values: no call is named %s\n", name); return 1; }
         if (call <= OCEAN_TIDE) over_field(call);
+        else if (call == WRITE_FIELD) write_field();
         else if (call <= FIND_LINE) alone(call);
         else if (call == HOUR) an_hour();
         else profile(call);

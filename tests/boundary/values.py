@@ -1,8 +1,8 @@
 """Writes calls and the second program's answers to them, as words, for values.c: `python3 values.py > FILE`.
 
 `field`, a degree and two lists lend a field; the calls after it are made on it in turn. A call is its name, what is given (floats as their bits,
-records after how many there are), the number answered, where that is 0 the results, and on a field for each list the entries changed. All other
-entries must stay as they were.
+records and bytes after how many there are), the number answered, where that is 0 the results, and on a field for each list the entries changed. All
+other entries must stay as they were.
 
 An hour is how many steps there are and the steps, from the start: `0` and six phases, which are set; `1`, an argument's number and the amount it
 is moved by, or any other number, which is answered by 100 and changes nothing; `2`, six phases, 49 cosines and 49 sines, a record written by
@@ -18,6 +18,7 @@ from math import inf, ldexp, nextafter
 from pathlib import Path
 
 sys.path.insert(0, str(Path(__file__).resolve().parents[2] / 'second'))
+import files
 import given as g
 import telling
 import tides as t
@@ -72,6 +73,10 @@ def pole_tide(xp, yp, love):
     return 'pole_tide', love, xp, yp
 
 
+def write_field(constant, radius, room, system):
+    return 'write_field', system, constant, radius, room
+
+
 def either(call, *args):
     """The call with either Love model or frame."""
     return [call(*args, 0), call(*args, 1)]
@@ -104,6 +109,10 @@ def on_field(call, N, C, S):
     elif name == 'pole_tide':
         if named(LOVES, choice):
             return t.pole_tide(N, C, S, *rest, named(LOVES, choice))
+    elif name == 'write_field':
+        if named(SYSTEMS, choice):
+            answer = files.write_file(N, C, S, *rest[:2], choice, rest[2])
+            return (answer, C, S) if isinstance(answer, int) else (0, *in_hex(answer), C, S)
     elif named(FRAMES, choice):
         return t.ocean(N, C, S, rest[1], rest[0], named(FRAMES, choice))
     return NO_SUCH_CHOICE, C, S
@@ -139,6 +148,10 @@ def changes(before, after):
     return len(changed), *(word for change in changed for word in change)
 
 
+def in_hex(data):
+    return len(data), data.hex() or '-'
+
+
 def bits(x):
     return struct.unpack('<Q', struct.pack('<d', x))[0]
 
@@ -156,9 +169,9 @@ def given_words(call):
     if name == 'solid_tide':
         *bodies, steps, selection = rest
         return name, choice, *(word for kind, *floats in bodies for word in (kind, *map(bits, floats))), *hour_words(steps), selection
-    if name == 'pole_tide':
+    if name in ('pole_tide', 'write_field'):
         return call
-    return name, choice, *rest[0], len(rest[1]), rest[1].hex() or '-'
+    return name, choice, *rest[0], *in_hex(rest[1])
 
 
 def words(case):
@@ -790,6 +803,62 @@ def where_twins_stand():
         yield g.any_field(chance, chance.one(11, 12, 60)), [some_ocean(g.write_sheet(some, *rest)) for some in (g.twinned(lines, *pair), lines)]
 
 
+# --- Files: writing ---
+
+TENS = [10**k + d for k in range(20) for d in (-1, 0, 1)]
+ENTRIES = [sign * size for size in (*(ten for ten in TENS if ten < g.EDGE), 600, g.EDGE - 1, g.EDGE) for sign in (1, -1)]
+UNSIGNED = *TENS[:-1], 398600441500000, 6378136300, 1 << 32, (1 << 63) - 1, 1 << 63, (1 << 64) - 1
+WRITE_ORDER = NO_SUCH_CHOICE, 1, 2, 21
+
+
+def some_write(room):
+    return write_field(chance.one(*UNSIGNED), chance.one(*UNSIGNED), room, chance.below(3))
+
+
+def in_lists(N, entries):
+    """Fields of degree N that have these entries in turn, C from their start and S from their end."""
+    step = t.size(N)
+    for i in range(0, len(entries), step):
+        C = (entries[i:i + step] + entries)[:step]
+        yield N, C, C[::-1]
+
+
+def write_with(faults):
+    """A field and a writing that has the faults at these places of the order."""
+    N = chance.between(4, 9)
+    C, S = ([chance.one(*ENTRIES) for _ in range(t.size(N))] for _ in 'cs')
+    bad = chance.one(g.EDGE + 1, -g.EDGE - 1, g.LEAST_64, -1 - g.LEAST_64)
+    if 2 in faults:
+        C, S = chance.one((g.spoilt(C, chance.below(len(C)), bad), S), (C, g.spoilt(S, chance.below(len(S)), bad)))
+    if 1 in faults:
+        N, C, S = chance.one((3, C, S), (N + 1, C, S), (N, C[1:], S), (N, C, [*S, 0]), (g.U32, C, S))
+    fit = files.file_bytes(min(N, 60))
+    _, system, constant, radius, _ = some_write(0)
+    room = chance.one(fit - 1, fit - 54, 0, chance.below(fit)) if 3 in faults else chance.one(fit, fit + 1, fit + 54, 130_000)
+    return (N, C, S), write_field(constant, radius, room, chance.one(3, *NO_CHOICES) if 0 in faults else system)
+
+
+def written():
+    """Every degree once; entries at every power of ten and beside it; the constant and the radius there; outputs of every kind; and every set of faults."""
+    for N in range(4, 61):
+        fit = files.file_bytes(N)
+        yield g.any_field(chance, N), [some_write(fit - 1), some_write(chance.one(fit, fit, fit + 1, fit + 999)), some_write(0)]
+    for N in range(4, 10):
+        for field in in_lists(N, ENTRIES):
+            yield field, [some_write(files.file_bytes(N))]
+    for one, system in product(UNSIGNED, range(3)):
+        yield (4, *([chance.one(*ENTRIES) for _ in range(15)] for _ in 'cs')), [
+            write_field(one, chance.one(*UNSIGNED), 1296, system), write_field(chance.one(*UNSIGNED), one, 1296 + chance.below(3), system)]
+    for room in (*range(0, 1400, 54), *range(1290, 1303), 140_000):
+        yield ZEROS, [some_write(room), some_write(1296)]
+    call = some_write(102_600)
+    yield from some_fields(call)
+    yield from choices(call)
+    for faults in sets_of_faults(WRITE_ORDER):
+        field, call = write_with(faults)
+        yield field, [call]
+
+
 # --- Cases of the description, and a day ---
 
 def printed():
@@ -817,7 +886,7 @@ def cases():
     pole = pole_tide(*telling.POLE_OFFSETS[1], 1)
     yield from fields(pole)
     yield from choices(pole)
-    for part in (offsets_refused, offsets_alone, pole_offsets, hours, hours_used, twin_lines, where_twins_stand):
+    for part in (offsets_refused, offsets_alone, pole_offsets, hours, hours_used, twin_lines, where_twins_stand, written):
         yield from part()
 
 
