@@ -5,20 +5,26 @@
 #include "lent.h"
 #include "surfgimlet.h"
 
-#define LEAST 32000 /* cases, so that an input cut short is noticed */
-#define MOST_BYTES 140000 /* of a sheet or a text */
+#define LEAST 32500 /* cases, so that an input cut short is noticed */
+#define MOST_BYTES 200000 /* of a sheet or a file */
 
 /* an hour is a call of its own: start, set and move, in any order */
-enum { SOLID_TIDE, OWN_LINES, POLE_TIDE, OCEAN_TIDE, WRITE_FIELD, MOVE_C20, MULTIPLIERS_OF, NUMBER_OF, FIND_LINE, HOUR, ALL_LINES, MAJOR_LINES, CALLS };
-static const char *names[CALLS] = {"solid_tide", "own_lines", "pole_tide", "ocean_tide", "write_field", "move_c20", "multipliers_of", "number_of",
-    "find_line", "hour", "all_lines", "major_lines"};
-static const int numbers[CALLS][10] = {{0, 1, 2, 3, 4, 5, 6, 14, 100, -1}, {0, 1, 2, 12, 13, -1},
+enum { SOLID_TIDE, OWN_LINES, POLE_TIDE, OCEAN_TIDE, WRITE_FIELD, MOVE_C20, MULTIPLIERS_OF, NUMBER_OF, FIND_LINE, HOUR, ALL_LINES, MAJOR_LINES,
+#ifdef READING
+    FILE_HEAD, READ_FIELD,
+#endif
+    CALLS };
+static const char *names[] = {"solid_tide", "own_lines", "pole_tide", "ocean_tide", "write_field", "move_c20", "multipliers_of", "number_of",
+    "find_line", "hour", "all_lines", "major_lines", "file_head", "read_field"};
+static const int numbers[][10] = {{0, 1, 2, 3, 4, 5, 6, 14, 100, -1}, {0, 1, 2, 12, 13, -1},
     {0, 1, 2, 15, 100, -1}, {0, 1, 2, 7, 8, 16, 9, 100, -1}, {0, 1, 2, 21, 100, -1}, {0, 2, 100, -1}, {0, 10, -1}, {0, 10, -1}, {0, 10, 11, -1},
-    {0, 100, -1}, {0, -1}, {0, -1}};
+    {0, 100, -1}, {0, -1}, {0, -1}, {0, 17, 18, 19, 20, -1}, {0, 17, 18, 19, 20, 1, -1}};
 static long answered[CALLS][101], cases, differences;
 
 static uint32_t n;
 static lent c, s, told_c, told_s; /* the field lent, and what it must hold after the call */
+static uint8_t file[MOST_BYTES]; /* the file lent */
+static size_t file_length;
 
 static int64_t word(void)
 {
@@ -132,9 +138,9 @@ static void expect(int call, uint32_t answer, uint32_t number, int as_told)
 /* bytes, after how many there are */
 static size_t text(uint8_t *bytes)
 {
-    static char hex[280001]; /* twice MOST_BYTES */
+    static char hex[400001]; /* twice MOST_BYTES */
     size_t length = (size_t)word();
-    if (length > MOST_BYTES || scanf("%280000s", hex) != 1) { puts("values: a text is missing or too long"); exit(1); }
+    if (length > MOST_BYTES || scanf("%400000s", hex) != 1) { puts("values: a text is missing or too long"); exit(1); }
     for (size_t i = 0; i < length; i++) {
         char pair[3] = {hex[2 * i], hex[2 * i + 1], 0};
         bytes[i] = (uint8_t)strtoul(pair, NULL, 16);
@@ -200,6 +206,47 @@ static void an_hour(void)
     expect(HOUR, got.answer, told.answer, same_results(&got, &told));
 }
 
+#ifdef READING
+/* the four numbers of a file that is accepted */
+static void four(results *told)
+{
+    told->degree = (uint32_t)word();
+    told->constant = bits();
+    told->radius = bits();
+    told->system = (uint32_t)word();
+}
+
+static void file_head(void)
+{
+    results got = fresh(), told = fresh();
+    uint32_t answer = surfgimlet_file_head(file_length ? file : NULL, file_length, &got.degree, &got.constant, &got.radius, &got.system), number;
+    number = (uint32_t)word();
+    if (number == 0) four(&told);
+    expect(FILE_HEAD, answer, number, same_results(&got, &told));
+}
+
+static void lend_untouched(lent *l, size_t length)
+{
+    lend(l, length);
+    for (size_t i = 0; i < length; i++) entries(l)[i] = UNTOUCHED;
+}
+
+static void read_field(void)
+{
+    static uint8_t kept[MOST_BYTES];
+    results got = fresh(), told = fresh();
+    uint32_t answer, number;
+    lend_untouched(&c, (size_t)word()); lend_untouched(&s, (size_t)word());
+    memcpy(&told_c, &c, sizeof c); memcpy(&told_s, &s, sizeof s);
+    memcpy(kept, file, file_length);
+    answer = surfgimlet_read_field(file_length ? file : NULL, file_length, or_null(&c), c.length, or_null(&s), s.length, &got.degree, &got.constant, &got.radius,
+                                   &got.system);
+    number = (uint32_t)word();
+    if (number == 0) { four(&told); list(&told_c); list(&told_s); }
+    expect(READ_FIELD, answer, number, same(&c, &told_c) && same(&s, &told_s) && same_results(&got, &told) && !memcmp(kept, file, file_length));
+}
+#endif
+
 /* the two selections that are supplied */
 static void profile(int call)
 {
@@ -248,12 +295,26 @@ int main(void)
             memcpy(&told_c, &c, sizeof c); memcpy(&told_s, &s, sizeof s);
             continue;
         }
+        if (!strcmp(name, "file")) {
+            file_length = text(file);
+            continue;
+        }
+#ifndef READING
+        if (!strcmp(name, "file_head") || !strcmp(name, "read_field")) {
+            if (scanf("%*[^\n]")) return 1;
+            continue;
+        }
+#endif
         while (call < CALLS && strcmp(name, names[call])) call++;
         if (call == CALLS) { printf("values: no call is named %s\n", name); return 1; }
         if (call <= OCEAN_TIDE) over_field(call);
         else if (call == WRITE_FIELD) write_field();
         else if (call <= FIND_LINE) alone(call);
         else if (call == HOUR) an_hour();
+#ifdef READING
+        else if (call == FILE_HEAD) file_head();
+        else if (call == READ_FIELD) read_field();
+#endif
         else profile(call);
     }
     for (int call = 0; call < CALLS; call++) {

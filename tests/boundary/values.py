@@ -8,6 +8,9 @@ An hour is how many steps there are and the steps, from the start: `0` and six p
 is moved by, or any other number, which is answered by 100 and changes nothing; `2`, six phases, 49 cosines and 49 sines, a record written by
 hand. `solid_tide` takes one in place of phases. `hour` has one, the number that its last step answers, 0 where there is none, and always the six
 phases, 49 cosines and 49 sines that the record has in the end.
+
+`file` and its bytes lend a file; `file_head` and `read_field` after it are made on it. Of `read_field` the lengths of two lists are given, and where
+the number is 0 the results are the head's four and both lists, which must stay as they were where it is not.
 """
 
 import struct
@@ -18,6 +21,8 @@ from math import inf, ldexp, nextafter
 from pathlib import Path
 
 sys.path.insert(0, str(Path(__file__).resolve().parents[2] / 'second'))
+import check_files
+import field_files as ff
 import files
 import given as g
 import telling
@@ -133,6 +138,23 @@ def alone(name, *args):
     return {'multipliers_of': t.doodson_read, 'find_line': t.find_line}[name](*args)
 
 
+def file_head(data):
+    """The number, and max_degree, gravity constant, radius and system where it is 0: no lists fit a length of 0, which is told after all else."""
+    number = files.read_file(data, 0, 0)
+    if number != 1:
+        return (number,)
+    top, constant, radius, system, _ = files.parsed(data)
+    return 0, top, constant, radius, files.SYSTEMS.index(system)
+
+
+def read_field(data, *lengths):
+    answer = files.read_file(data, *lengths)
+    if isinstance(answer, int):
+        return (answer,)
+    *head, C, S = answer
+    return 0, *head, *listed(C), *listed(S)
+
+
 # --- As words ---
 
 def listed(entries):
@@ -179,6 +201,11 @@ def words(case):
     if case[0] == 'hour':
         number, hour = hour_answer(case[1])
         yield 'hour', *hour_words(case[1]), number, *(word for part in hour for word in part)
+        return
+    if case[0] == 'file':
+        yield 'file', *in_hex(case[1])
+        yield 'file_head', *file_head(case[1])
+        yield from (('read_field', *lengths, *read_field(case[1], *lengths)) for lengths in case[2])
         return
     if isinstance(case[0], str):
         number, results = alone(*case)
@@ -839,7 +866,8 @@ def write_with(faults):
 
 
 def written():
-    """Every degree once; entries at every power of ten and beside it; the constant and the radius there; outputs of every kind; and every set of faults."""
+    """The text that was written by hand; every degree once; entries at every power of ten and beside it; the constant and the radius there; outputs of every kind; and every set of faults."""
+    yield (4, check_files.WRITTEN_C, check_files.WRITTEN_S), [write_field(398600441500000, 6378136300, 1300, 2)]
     for N in range(4, 61):
         fit = files.file_bytes(N)
         yield g.any_field(chance, N), [some_write(fit - 1), some_write(chance.one(fit, fit, fit + 1, fit + 999)), some_write(0)]
@@ -857,6 +885,38 @@ def written():
     for faults in sets_of_faults(WRITE_ORDER):
         field, call = write_with(faults)
         yield field, [call]
+
+
+# --- Files: reading ---
+
+def as_file(case, *more):
+    """A file read into lists of the lengths that it has, and of others; what is due by how it was made must be what the second program answers."""
+    data, length_c, length_s, due = case
+    assert due in (None, files.read_file(data, length_c, length_s))
+    return 'file', data, [(length_c, length_s), *more]
+
+
+def faulty_files():
+    """Every set of faults, and every fault of 17 alone and with one more."""
+    for numbers in sets_of_faults(ff.ORDER):
+        yield from (ff.with_faults(chance, [ff.ORDER[i] for i in numbers]) for _ in range(4))
+    for fault in ff.FAULTS[17]:
+        yield from (ff.with_faults(chance, (17, *others), fault) for others in ((), (), (18,), (19,), (20,), (1,)))
+
+
+def read():
+    """Files made by hand, at the edges of the rules, with faults and of any kind; every degree read again after it was written; and nearly nothing."""
+    for case in (*check_files.hand_cases(), *ff.edge_files(chance), *faulty_files()):
+        yield as_file(case)
+    for _ in range(1000):
+        yield as_file(ff.any_file(chance), ff.wrong_lengths(chance, 15), (15, 15))
+    for N in range(4, 61):
+        C, S = ([chance.one(*ENTRIES) for _ in range(t.size(N))] for _ in 'cs')
+        constant, radius, system = chance.one(*UNSIGNED), chance.one(*UNSIGNED), chance.below(3)
+        text = files.write_file(N, C, S, constant, radius, system, 102_600)
+        yield as_file(ff.Case(text, t.size(N), t.size(N), (N, constant, radius, system, C, S)), (t.size(N - 1), t.size(N)))
+    for data in (b'', b'\n', b' ', b'\r\n\t', b'end_of_head', b'end_of_head\n', b'\0', b'gfc 0 0 0 0'):
+        yield as_file(ff.Case(data, 15, 15, 17), (0, 0))
 
 
 # --- Cases of the description, and a day ---
@@ -886,7 +946,7 @@ def cases():
     pole = pole_tide(*telling.POLE_OFFSETS[1], 1)
     yield from fields(pole)
     yield from choices(pole)
-    for part in (offsets_refused, offsets_alone, pole_offsets, hours, hours_used, twin_lines, where_twins_stand, written):
+    for part in (offsets_refused, offsets_alone, pole_offsets, hours, hours_used, twin_lines, where_twins_stand, written, read):
         yield from part()
 
 
