@@ -300,9 +300,10 @@ static void add_line(file *f)
     for (int i = 0; i <= twice; i++) splice(f, f->length, 0, line, (size_t)length);
 }
 
-/* the header alone */
+/* the header alone, now and then of a degree that is too low */
 static void cut_data(file *f)
 {
+    if (one_in(6)) set_entry(f, "max_degree", one_in(2) ? "3" : "02");
     for (size_t at = 0, length; at < f->length; at += length) {
         length = line_at(f, &at);
         if (length > 11 && !memcmp(f->bytes + at, "end_of_head", 11)) f->length = at + length;
