@@ -160,6 +160,15 @@ static uint32_t head_of(const uint8_t *text, size_t length, read_again *into)
     return surfgimlet_file_head(text, length, &into->degree, &into->constant, &into->radius, &into->system);
 }
 
+/* the numbers of what was written */
+static void four(const read_again *got)
+{
+    expect("its degree", got->degree, 4u);
+    expect("its constant", got->constant == 398600441500000u ? 0u : 1u, 0u);
+    expect("its radius", got->radius == 6378136300u ? 0u : 1u, 0u);
+    expect("its system", got->system, SURFGIMLET_ZERO_TIDE);
+}
+
 /* a text of one's own: refused by both calls with the same number, or for its lists alone, and nothing touched */
 static void refused(const char *text, uint32_t wanted)
 {
@@ -177,14 +186,15 @@ static void refused(const char *text, uint32_t wanted)
 /* what was written, read again; the order of the refusals; halves, the exponent's letters, S of order 0 and a place that no line has */
 static void reading(void)
 {
-    const char *own = "a comment\rbegin_of_head\r\nunknown 1\n" HEAD("5") TIDE "end_of_head =\n\ngfc 2 0 -0.5D-15 1152.921504606846976 .1 .2\n\tgfc 05 5 5e-16 -4.9E-16";
+    const char *own = "a comment\rbegin_of_head\r\nunknown 1\n" HEAD("5") TIDE
+        "end_of_head =\n\ngfc 2 0 -0.5D-15 1152.921504606846976 .1 .2\n\tgfc 05 5 5e-16 -4.9E-16";
     read_again got;
     memset(&got, 0, sizeof got);
     expect("a file's head", head_of(file, SURFGIMLET_FILE_BYTES(4), &got), SURFGIMLET_ACCEPTED);
-    expect("its four numbers", got.degree == 4 && got.constant == 398600441500000u && got.radius == 6378136300u && got.system == SURFGIMLET_ZERO_TIDE ? 0u : 1u, 0u);
+    four(&got);
     memset(&got, 0x5a, sizeof got);
     expect("a file read", read_text(file, SURFGIMLET_FILE_BYTES(4), 15, &got), SURFGIMLET_ACCEPTED);
-    expect("its four numbers", got.degree == 4 && got.constant == 398600441500000u && got.radius == 6378136300u && got.system == SURFGIMLET_ZERO_TIDE ? 0u : 1u, 0u);
+    four(&got);
     expect("its lists", memcmp(got.c, file_c, sizeof file_c) == 0 && memcmp(got.s, file_s, sizeof file_s) == 0 ? 0u : 1u, 0u);
     expect("no file", read_text(NULL, 0, 15, &got), SURFGIMLET_FILE_FORM);
     refused(HEAD("61") "end_of_head\ngfc 61 0 1e9 0\ngfc 61 00 0 0\ngfct 0 0 1 0\n", SURFGIMLET_FILE_FORM);

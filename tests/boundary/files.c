@@ -22,8 +22,8 @@ static long answered[CALLS][101], differences;
 /* what an answer alone does not tell, of writing and of reading */
 enum { SYSTEM_AND_1, SYSTEM_AND_21, SHAPE_AND_21, RANGE_AND_21, EXACT, ONE_SHORT, LONGER, OF_WRITING,
 #ifdef READING
-    TWINS_AND_19 = OF_WRITING, TWINS_AND_20, RANGE_AND_20, SYSTEM_AND_LISTS, TWINS_ABOVE_60, HIGH_DEGREE, LOW_DEGREE, C_BEYOND, S_BEYOND, PLACE_MISSING, S_OF_ORDER_0,
-    AT_THE_END, FULL, TOO_LONG,
+    TWINS_AND_19 = OF_WRITING, TWINS_AND_20, RANGE_AND_20, SYSTEM_AND_LISTS, TWINS_ABOVE_60, HIGH_DEGREE, LOW_DEGREE, C_BEYOND, S_BEYOND, PLACE_MISSING,
+    S_OF_ORDER_0, AT_THE_END, FULL, TOO_LONG,
 #else
     NO_READING = OF_WRITING - 1,
 #endif
@@ -40,7 +40,8 @@ static void expect(int call, uint32_t answer, uint32_t told, int as_told)
     answered[call][told]++;
     if (answer == told && as_told) return;
     if (differences++ < 20)
-        printf("%s: answered %" PRIu32 ", the model %" PRIu32 "%s\n", names[call], answer, told, as_told ? "" : ", and a byte, an entry, a result or a guard differs");
+        printf("%s: answered %" PRIu32 ", the model %" PRIu32 "%s\n", names[call], answer, told,
+               as_told ? "" : ", and a byte, an entry, a result or a guard differs");
 }
 
 /* ---- writing */
@@ -194,7 +195,7 @@ static size_t line_at(const file *f, size_t *at)
 /* a byte that has a meaning in a file or is taken for one, or any */
 static uint8_t telling(void)
 {
-    static const uint8_t bytes[] = " \t\n\r0123456789+-.EeDdgfcx_\0\x0b\x0c\x1c\x7f\x80\x85\xa0\xff";
+    static const uint8_t bytes[] = " \t\n\r0123456789+-.EeDdFfGgQqcx_\0\x0b\x0c\x1c\x7f\x80\x85\xa0\xff";
     return one_in(4) ? (uint8_t)any() : bytes[below(sizeof bytes - 1)];
 }
 
@@ -202,15 +203,16 @@ static uint8_t telling(void)
 static size_t a_decimal(char *out)
 {
     static const char *far[] = {"999999999999", "4294967311", "18446744073709551601", "18446744073709551616", "00000000000000000000000000007"};
-    static const char *near[] = {"1152921504606846976", "1152921504606846977", "11529215046068469764", "11529215046068469765", "115292150460684697649", "5", "50", "500000000000000001",
-        "49999999999999999999", "15", "25", "18446744073709551615", "18446744073709551616", "184467440737095516154", "184467440737095516155", "0", "00"};
+    static const char *near[] = {"1152921504606846976", "1152921504606846977", "11529215046068469764", "11529215046068469765", "115292150460684697649", "5",
+        "50", "500000000000000001", "49999999999999999999", "15", "25", "18446744073709551615", "18446744073709551616", "184467440737095516154",
+        "184467440737095516155", "0", "00"};
     char digits[80] = "";
     int length, dot, power = (int)within(20) - 12;
     if (one_in(2)) strcpy(digits, near[below(sizeof near / sizeof near[0])]);
     else snprintf(digits, sizeof digits, "%" PRIu64, any() >> below(64));
     length = (int)strlen(digits);
     dot = (int)below((uint64_t)length + 1);
-    if (one_in(2)) power = -15 - (one_in(3) ? 1 : 0) + (length - dot) - (one_in(2) ? 0 : length - 19); /* the last digit is a count or a tenth of one, or so are the first 19 */
+    if (one_in(2)) power = length - dot - 15 - one_in(3) - (one_in(2) ? 0 : length - 19); /* counts are all digits, or the first 19, or but one of them */
     length = snprintf(out, 100, "%s%.*s.%s", one_in(3) ? "-" : one_in(4) ? "+" : "", dot, digits, digits + dot);
     if (one_in(12)) return (size_t)(length + snprintf(out + length, 100, "%c%s%s", "EeDd"[below(4)], one_in(2) ? "-" : one_in(2) ? "+" : "", far[below(5)]));
     if (one_in(8)) return (size_t)length;
@@ -221,8 +223,9 @@ static size_t a_decimal(char *out)
 static size_t a_word(char *out)
 {
     static const char *words[] = {"gfc", "gfct", "GFC", "end_of_head", "begin_of_head", "product_type", "gravity_field", "modelname", "earth_gravity_constant",
-        "gravity_constant", "radius", "max_degree", "errors", "norm", "fully_normalized", "tide_system", "tide_free", "zero_tide", "mean_tide", "unknown", "0", "00", "1",
-        "2", "02", "3", "4", "5", "60", "61", "18446744073709551620", "+1", "-0", ".", "+", "1.", ".1", "1e", "e1", "1e+", "1.2.3", "1d5", "nan", "#", "1e1.", "0x1"};
+        "gravity_constant", "radius", "max_degree", "errors", "norm", "fully_normalized", "tide_system", "tide_free", "zero_tide", "mean_tide", "unknown",
+        "0", "00", "1", "2", "02", "3", "4", "5", "60", "61", "18446744073709551620", "+1", "-0", ".", "+", "1.", ".1", "1e", "e1", "1e+", "1.2.3", "1d5",
+        "1q5", "1Q5", "nan", "#", "1e1.", "0x1"};
     if (one_in(2)) return a_decimal(out);
     strcpy(out, words[below(sizeof words / sizeof words[0])]);
     return strlen(out);
@@ -248,12 +251,19 @@ static void exchange_words(file *f)
     splice(f, other + of_other - length, of_other, kept, length);
 }
 
-/* a line doubled, left out or put elsewhere; one of many digits before its degree or order now and then */
+/* a line doubled, left out or put elsewhere, now and then one that may not stand there */
 static void move_line(file *f)
 {
+    static const char *lines[] = {"begin_of_head\n", "end_of_head =\n", "max_degree 5\n", "gravity_constant 1\n", "radius\n", "norm none\n", "gfct 2 0 1 0\n",
+        "gfc 2 0 1 0\n", "# x\n"};
     uint8_t kept[MOST_ROOM];
     size_t from = below(f->length), length = line_at(f, &from), to;
     memcpy(kept, f->bytes + from, length);
+    if (one_in(4)) {
+        const char *line = lines[below(9)];
+        splice(f, from, 0, line, strlen(line));
+        return;
+    }
     if (one_in(3)) splice(f, from, length, "", 0);
     if (!f->length || one_in(4)) return;
     to = below(f->length);
@@ -275,12 +285,12 @@ static void set_entry(file *f, const char *keyword, const char *value)
 
 static void change_entry(file *f)
 {
-    static const char *degrees[] = {"3", "0", "61", "60", "060", "4", "2190", "18446744073709551620", "4294967300", "7", "x"};
+    static const char *degrees[] = {"3", "0", "61", "60", "060", "4", "2190", "18446744073709551620", "4294967300", "7", "+7", "7."};
     static const char *systems[] = {"tide_free", "zero_tide", "mean_tide", "unknown", "mean_tides", "zero"};
     char word[200];
     a_decimal(word);
     switch (below(4)) {
-    case 0: set_entry(f, "max_degree", degrees[below(11)]); break;
+    case 0: set_entry(f, "max_degree", degrees[below(12)]); break;
     case 1: set_entry(f, "tide_system", systems[below(6)]); break;
     case 2: set_entry(f, "radius", word); break;
     default: set_entry(f, one_in(2) ? "earth_gravity_constant" : "gravity_constant", word);
@@ -290,13 +300,15 @@ static void change_entry(file *f)
 /* a line of data behind the last: of any place, of one above degree 60 too, sometimes twice */
 static void add_line(file *f)
 {
-    static const unsigned degrees[] = {0, 2, 4, 5, 60, 61, 61, 62, 2190};
+    static const char *degrees[] = {"0", "2", "4", "5", "60", "61", "62", "2190", "4294967298", "18446744073709551618", "18446744073709551619"};
+    static const char *most[] = {"61", "2190", "18446744073709551618", "18446744073709551620"};
     char line[500], c[200], s[200];
-    unsigned l = degrees[below(9)], m = one_in(2) ? l : (unsigned)below(l + 1);
+    uint64_t l = below(11), m = one_in(2) ? l : below(l + 1);
     int length, twice = one_in(3);
     a_decimal(c); a_decimal(s);
-    length = snprintf(line, sizeof line, "\ngfc %s%u %s%u %s %s%s", one_in(4) ? "00" : "", l, one_in(4) ? "0" : "", m, c, s, one_in(4) ? " x y" : "");
-    if (l > 60 && !one_in(4)) set_entry(f, "max_degree", one_in(2) ? "2190" : "61");
+    length = snprintf(line, sizeof line, "\ngfc %s%s %s%s %s %s%s", one_in(4) ? "00" : one_in(30) ? "+" : "", degrees[l], one_in(4) ? "0" : "",
+                      degrees[m], c, s, one_in(4) ? " x y" : "");
+    if (l > 4 && !one_in(4)) set_entry(f, "max_degree", most[below(4)]);
     for (int i = 0; i <= twice; i++) splice(f, f->length, 0, line, (size_t)length);
 }
 
@@ -321,28 +333,32 @@ static void pad(file *f)
     f->length = goal;
 }
 
-static void change_byte(file *f)
+/* a bit of a byte turned, the byte exchanged, one put before it, or it left out */
+static void change_byte(file *f, size_t at, uint64_t how)
 {
     uint8_t byte = telling();
-    size_t at = below(f->length);
-    switch (below(4)) {
+    switch (how) {
     case 0: f->bytes[at] ^= (uint8_t)(1 << below(8)); break;
     case 1: splice(f, at, 1, &byte, 1); break;
     case 2: splice(f, at, 0, &byte, 1); break;
-    default: splice(f, at, one_in(4) ? below(f->length - at + 1) / 8 : 1, "", 0);
+    default: splice(f, at, 1, "", 0);
     }
+}
+
+static void take_seed(file *f, size_t seed)
+{
+    f->length = seeds[seed].length;
+    memcpy(f->bytes, seeds[seed].bytes, f->length);
 }
 
 /* a good file, or its header, changed up to four times, in one way after another */
 static void draw_file(file *f)
 {
-    uint64_t seed = below(seed_count);
-    f->length = seeds[seed].length;
-    memcpy(f->bytes, seeds[seed].bytes, f->length);
+    take_seed(f, below(seed_count));
     if (one_in(4)) cut_data(f);
     for (uint64_t left = below(5); left > 0 && f->length; left--)
         switch (below(8)) {
-        case 0: case 1: change_byte(f); break;
+        case 0: case 1: change_byte(f, below(f->length), below(4)); break;
         case 2: replace_word(f); break;
         case 3: exchange_words(f); break;
         case 4: move_line(f); break;
@@ -417,21 +433,24 @@ static void read_any(void)
     read_file(f.bytes, f.length);
 }
 
-/* every byte of a short file changed in turn */
-static void read_every_byte(void)
+/* every byte of a file changed in turn, in each way */
+static void read_every_byte(size_t seed)
 {
     static file f;
-    size_t shortest = 0, length;
+    for (size_t at = 0; at < seeds[seed].length; at++)
+        for (uint64_t how = 0; how < 4; how++) {
+            take_seed(&f, seed);
+            change_byte(&f, at, how);
+            read_file(f.bytes, f.length);
+        }
+}
+
+static size_t shortest(void)
+{
+    size_t found = 0;
     for (size_t i = 1; i < seed_count; i++)
-        if (seeds[i].length < seeds[shortest].length) shortest = i;
-    f.length = length = seeds[shortest].length;
-    for (size_t i = 0; i < length; i++) {
-        memcpy(f.bytes, seeds[shortest].bytes, length);
-        f.bytes[i] = telling();
-        read_file(f.bytes, length);
-        f.bytes[i] = seeds[shortest].bytes[i] ^ (uint8_t)(1 << below(8));
-        read_file(f.bytes, length);
-    }
+        if (seeds[i].length < seeds[found].length) found = i;
+    return found;
 }
 
 /* what the archive writes, it reads again: the same entries and the same four numbers */
@@ -443,7 +462,8 @@ static void read_again(uint32_t n, lent *c, lent *s)
     const uint32_t system = (uint32_t)below(3);
     results got = fresh(), told = fresh();
     uint32_t answer;
-    if (surfgimlet_write_field(n, entries(c), c->length, entries(s), s->length, constant, radius, system, text, sizeof text, &told.written)) differences++;
+    answer = surfgimlet_write_field(n, entries(c), c->length, entries(s), s->length, constant, radius, system, text, sizeof text, &told.written);
+    if (answer) { expect(WRITE_FIELD, answer, 0, 1); return; }
     lend(&c2, c->length); lend(&s2, s->length);
     for (size_t i = 0; i < c->length; i++) entries(&c2)[i] = entries(&s2)[i] = UNTOUCHED;
     told.degree = n; told.constant = constant; told.radius = radius; told.system = system;
@@ -474,7 +494,8 @@ int main(int argc, char **argv)
 #ifdef READING
     read_seeds();
     read_every_degree();
-    read_every_byte();
+    read_every_byte(0);
+    read_every_byte(shortest());
     for (long i = 0; i < count; i++) read_any();
     printf("files: exact halves read: %ld above zero, %ld below\n", model_read_halves[0], model_read_halves[1]);
     missing += (model_read_halves[0] == 0) + (model_read_halves[1] == 0);

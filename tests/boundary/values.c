@@ -239,8 +239,8 @@ static void read_field(void)
     lend_untouched(&c, (size_t)word()); lend_untouched(&s, (size_t)word());
     memcpy(&told_c, &c, sizeof c); memcpy(&told_s, &s, sizeof s);
     memcpy(kept, file, file_length);
-    answer = surfgimlet_read_field(file_length ? file : NULL, file_length, or_null(&c), c.length, or_null(&s), s.length, &got.degree, &got.constant, &got.radius,
-                                   &got.system);
+    answer = surfgimlet_read_field(file_length ? file : NULL, file_length, or_null(&c), c.length, or_null(&s), s.length, &got.degree, &got.constant,
+                                   &got.radius, &got.system);
     number = (uint32_t)word();
     if (number == 0) { four(&told); list(&told_c); list(&told_s); }
     expect(READ_FIELD, answer, number, same(&c, &told_c) && same(&s, &told_s) && same_results(&got, &told) && !memcmp(kept, file, file_length));

@@ -866,7 +866,8 @@ def write_with(faults):
 
 
 def written():
-    """The text that was written by hand; every degree once; entries at every power of ten and beside it; the constant and the radius there; outputs of every kind; and every set of faults."""
+    """The text that was written by hand; every degree once; entries, the constant and the radius at every power of ten and beside it; outputs of every
+    length; and every set of faults."""
     yield (4, check_files.WRITTEN_C, check_files.WRITTEN_S), [write_field(398600441500000, 6378136300, 1300, 2)]
     for N in range(4, 61):
         fit = files.file_bytes(N)
@@ -904,9 +905,16 @@ def faulty_files():
         yield from (ff.with_faults(chance, (17, *others), fault) for others in ((), (), (18,), (19,), (20,), (1,)))
 
 
+def with_each_byte():
+    """Each byte where a blank, a sign, a dot, an exponent's mark and the end of a number or a word may stand."""
+    for at in (b'gfc?2 0 1 0', b'gfc 2 0 ?1 0', b'gfc 2 0 1?5 0', b'gfc 2 0 1e?5 0', b'gfc 2 0 5?e-16 0', b'gfc 2? 0 1 0', b'gfc 2 0 1 0 x?x'):
+        for byte in range(256):
+            yield ff.Case(check_files.text().replace(b'ONE', b'?') + at.replace(b'?', bytes((byte,))), 15, 15, None)
+
+
 def read():
     """Files made by hand, at the edges of the rules, with faults and of any kind; every degree read again after it was written; and nearly nothing."""
-    for case in (*check_files.hand_cases(), *ff.edge_files(chance), *faulty_files()):
+    for case in (*check_files.hand_cases(), *with_each_byte(), *ff.edge_files(chance), *faulty_files()):
         yield as_file(case)
     for _ in range(1000):
         yield as_file(ff.any_file(chance), ff.wrong_lengths(chance, 15), (15, 15))
