@@ -261,7 +261,7 @@ static void move_line(file *f)
     memcpy(kept, f->bytes + from, length);
     if (one_in(4)) {
         const char *line = lines[below(9)];
-        splice(f, from, 0, line, strlen(line));
+        splice(f, one_in(2) ? from : 0, 0, line, strlen(line));
         return;
     }
     if (one_in(3)) splice(f, from, length, "", 0);
