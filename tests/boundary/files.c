@@ -94,7 +94,7 @@ static void write_field(uint32_t n, lent *c, lent *s, uint32_t system, size_t ro
 /* bytes for a text of degree n: as many, one less or more, a line less, none, any number */
 static size_t room_for(uint32_t n)
 {
-    size_t length = n < 62 ? model_file_bytes(n) : below(MOST_ROOM);
+    size_t length = n < 62 ? model_file_bytes(n) : 1000 + below(MOST_ROOM - 4000);
     switch (below(8)) {
     case 0: return length - 1;
     case 1: return length + 1;
@@ -152,7 +152,8 @@ static void read_seeds(void)
     size_t length;
     while (seed_count < MOST_SEEDS && scanf("%zu %280000s", &length, hex) == 2) {
         uint8_t *bytes = malloc(length);
-        for (size_t i = 0; bytes && i < length; i++) {
+        if (!bytes) { puts("files: no memory"); exit(1); }
+        for (size_t i = 0; i < length; i++) {
             char pair[3] = {hex[2 * i], hex[2 * i + 1], 0};
             bytes[i] = (uint8_t)strtoul(pair, NULL, 16);
         }
@@ -240,15 +241,17 @@ static void replace_word(file *f)
 
 static void exchange_words(file *f)
 {
-    uint8_t kept[MOST_ROOM];
-    size_t one = below(f->length), other = one_in(2) ? below(f->length) : one + below(40), length, of_other;
+    static uint8_t kept[MOST_ROOM];
+    size_t one = below(f->length), other = one_in(2) ? below(f->length) : one + below(40), length, of_other, between;
     if (other >= f->length) return;
     length = word_at(f, &one);
     of_other = word_at(f, &other);
     if (one > other || one + length > other) return;
-    memcpy(kept, f->bytes + one, length);
-    splice(f, one, length, f->bytes + other, of_other);
-    splice(f, other + of_other - length, of_other, kept, length);
+    between = other - one - length;
+    memcpy(kept, f->bytes + one, length + between + of_other);
+    memcpy(f->bytes + one, kept + length + between, of_other);
+    memcpy(f->bytes + one + of_other, kept + length, between);
+    memcpy(f->bytes + one + of_other + between, kept, length);
 }
 
 /* a line doubled, left out or put elsewhere, now and then one that may not stand there */
@@ -256,7 +259,7 @@ static void move_line(file *f)
 {
     static const char *lines[] = {"begin_of_head\n", "end_of_head =\n", "max_degree 5\n", "gravity_constant 1\n", "radius\n", "norm none\n", "gfct 2 0 1 0\n",
         "gfc 2 0 1 0\n", "# x\n"};
-    uint8_t kept[MOST_ROOM];
+    static uint8_t kept[MOST_ROOM];
     size_t from = below(f->length), length = line_at(f, &from), to;
     memcpy(kept, f->bytes + from, length);
     if (one_in(4)) {
