@@ -143,7 +143,6 @@ static void written(void)
     expect("the length at 60", (uint32_t)SURFGIMLET_FILE_BYTES(60), 102600u);
 }
 
-#ifdef READING
 typedef struct {
     int64_t c[21], s[21];
     uint32_t degree, system;
@@ -211,7 +210,6 @@ static void reading(void)
         expect("an entry of S", got.s[i] == (i == 3 ? (int64_t)1 << 60 : 0) ? 0u : 1u, 0u);
     }
 }
-#endif
 
 int main(void)
 {
@@ -228,9 +226,7 @@ int main(void)
     hours(day);
     twins();
     written();
-#ifdef READING
     reading();
-#endif
 
     /* with length 0 a null pointer is welcome */
     expect("no lists", surfgimlet_solid_tide(4, NULL, 0, NULL, 0, moon, sun, SURFGIMLET_ANELASTIC, surfgimlet_start_hour(), 0, &named), SURFGIMLET_FIELD_SHAPE);

@@ -9,12 +9,9 @@ cd "$(dirname "${BASH_SOURCE[0]}")/.."
 work=$(mktemp -d)
 trap 'rm -rf "$work"' EXIT
 
-# until the archive has the reading of files
-reading=$($NM "$prefix/lib/libsurfgimlet.a" | awk '$3 == "surfgimlet_read_field" { print "-DREADING" }')
-
 wanted=$(grep -c '^SURFGIMLET_ANSWER ' "$prefix/include/surfgimlet.h")
 for language in "$CC -x c -std=c99" "$CXX -x c++ -std=c++98" "$CXX -x c++ -std=c++17"; do
-    $language -O2 -Wall -Wextra -pedantic -Werror $reading $LINK -I"$prefix/include" tests/header.c -x none "$prefix/lib/libsurfgimlet.a" -o "$work/header"
+    $language -O2 -Wall -Wextra -pedantic -Werror $LINK -I"$prefix/include" tests/header.c -x none "$prefix/lib/libsurfgimlet.a" -o "$work/header"
     $RUN "$work/header"
     warned=$(LC_ALL=C $language -I"$prefix/include" -c -o /dev/null tests/ignored.c 2>&1 | grep -c 'warning: ignoring return value' || true)
     [ "$warned" = "$wanted" ] || { echo "$language: $warned warnings of an ignored answer, and not $wanted"; exit 1; }

@@ -4,31 +4,20 @@
 #include "draw.h"
 #include "lent.h"
 #include "model_files.h"
-#ifdef READING
 #include "model_reading.h"
-#endif
 
 #define BEFORE 64 /* bytes before an output, which no call touches */
 #define MOST_ROOM 140000
 
-#ifdef READING
 enum { WRITE_FIELD, READ_FIELD, FILE_HEAD, CALLS };
-#else
-enum { WRITE_FIELD, CALLS };
-#endif
-static const char *names[] = {"write_field", "read_field", "file_head"};
+static const char *names[CALLS] = {"write_field", "read_field", "file_head"};
 static long answered[CALLS][101], differences;
 
 /* what an answer alone does not tell, of writing and of reading */
 enum { SYSTEM_AND_1, SYSTEM_AND_21, SHAPE_AND_21, RANGE_AND_21, EXACT, ONE_SHORT, LONGER, OF_WRITING,
-#ifdef READING
     TWINS_AND_19 = OF_WRITING, TWINS_AND_20, RANGE_AND_20, SYSTEM_AND_LISTS, TWINS_ABOVE_60, HIGH_DEGREE, LOW_DEGREE, C_BEYOND, S_BEYOND, PLACE_MISSING,
-    S_OF_ORDER_0, AT_THE_END, FULL, TOO_LONG,
-#else
-    NO_READING = OF_WRITING - 1,
-#endif
-    EVENTS };
-static const char *events[] = {"100 before 1 or 2", "100 before 21", "1 before 21", "2 before 21", "an output of exactly the text's length",
+    S_OF_ORDER_0, AT_THE_END, FULL, TOO_LONG, EVENTS };
+static const char *events[EVENTS] = {"100 before 1 or 2", "100 before 21", "1 before 21", "2 before 21", "an output of exactly the text's length",
     "an output one byte short", "a longer output",
     "18 before 19", "18 before 20", "19 before 20", "20 with lists that do not fit", "a place twice above degree 60", "a degree above 60", "a degree below 4",
     "a C out of range", "an S out of range", "a place missing in a file accepted", "an S of order 0 that is not 0", "an entry at an end of the range",
@@ -133,8 +122,6 @@ static void write_every_degree(void)
         }
     }
 }
-
-#ifdef READING
 
 /* ---- reading */
 
@@ -486,15 +473,12 @@ static void read_every_degree(void)
         }
 }
 
-#endif
-
 int main(int argc, char **argv)
 {
-    static const int numbers[][7] = {{0, 1, 2, 21, 100, -1}, {0, 17, 18, 19, 20, 1, -1}, {0, 17, 18, 19, 20, -1}};
+    static const int numbers[CALLS][7] = {{0, 1, 2, 21, 100, -1}, {0, 17, 18, 19, 20, 1, -1}, {0, 17, 18, 19, 20, -1}};
     long count = argc > 1 ? atol(argv[1]) : 100000, missing = 0;
     write_every_degree();
     for (long i = 0; i < count; i++) write_any();
-#ifdef READING
     read_seeds();
     read_every_degree();
     read_every_byte(0);
@@ -502,7 +486,6 @@ int main(int argc, char **argv)
     for (long i = 0; i < count; i++) read_any();
     printf("files: exact halves read: %ld above zero, %ld below\n", model_read_halves[0], model_read_halves[1]);
     missing += (model_read_halves[0] == 0) + (model_read_halves[1] == 0);
-#endif
     for (int call = 0; call < CALLS; call++) {
         printf("files: %s answered", names[call]);
         for (const int *k = numbers[call]; *k >= 0; k++) {

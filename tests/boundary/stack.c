@@ -10,7 +10,7 @@
 
 #define ROOM 1048576
 #define ALLOWED 65536
-#define ALLOWED_READING 262144 /* a file's places are kept until it is known that none stands twice */
+#define ALLOWED_READING 196608 /* as README says */
 #define PAINT 0xa5
 
 static union { max_align_t aligned; uint8_t bytes[ROOM]; } stack;
@@ -24,10 +24,8 @@ static uint8_t sheet[70000];
 static size_t sheet_length;
 static uint8_t file[131072];
 static size_t file_length;
-#ifdef READING
 static char many[131072]; /* a file of some 8000 places, more than a field has */
 static size_t many_length;
-#endif
 
 /* the longest sheet: 128 lines, 32 tides, 90 places */
 static void fill(void)
@@ -42,7 +40,6 @@ static void fill(void)
     sheet_length = (size_t)(at - sheet);
 }
 
-#ifdef READING
 static void fill_many(void)
 {
     many_length = (size_t)snprintf(many, sizeof many, "product_type gravity_field\nradius 1\ngravity_constant 1\nmax_degree 200\nend_of_head\n");
@@ -50,7 +47,6 @@ static void fill_many(void)
         for (int m = 0; m <= n && many_length + 20 < sizeof many; m++)
             many_length += (size_t)snprintf(many + many_length, 20, "gfc %d %d 1 1\n", n, m);
 }
-#endif
 
 static const surfgimlet_phases b = {1, 2, 3, 4, 5, 6};
 static surfgimlet_hour hour;
@@ -71,13 +67,11 @@ static void number_of(void) { answer = surfgimlet_number_of(multipliers, &number
 static void find_line(void) { answer = surfgimlet_find_line(255555, &place, &first, &second); }
 
 static void write_field(void) { answer = surfgimlet_write_field(60, c, 1891, s, 1891, 398600441500000u, 6378136300u, 1, file, sizeof file, &file_length); }
-#ifdef READING
 static uint64_t constant, radius;
 static uint32_t system_of;
 static void file_head(void) { answer = surfgimlet_file_head(file, file_length, &number, &constant, &radius, &system_of); }
 static void read_many(void) { answer = surfgimlet_read_field((const uint8_t *)many, many_length, c, 1891, s, 1891, &number, &constant, &radius, &system_of); }
 static void read_field(void) { answer = surfgimlet_read_field(file, file_length, c, 1891, s, 1891, &number, &constant, &radius, &system_of); }
-#endif
 
 static size_t taken(void (*call)(void))
 {
@@ -100,16 +94,12 @@ int main(void)
         {"pole_tide", pole_tide, ALLOWED, 0}, {"ocean_tide", ocean_tide, ALLOWED, 0}, {"move_c20", move_c20, ALLOWED, 0},
         {"multipliers_of", multipliers_of, ALLOWED, 0}, {"number_of", number_of, ALLOWED, 0}, {"find_line", find_line, ALLOWED, 0},
         {"write_field", write_field, ALLOWED, 0}, /* and what it wrote, read */
-#ifdef READING
         {"file_head", file_head, ALLOWED_READING, 0}, {"read_field", read_field, ALLOWED_READING, 0},
         {"read_field, of many lines", read_many, ALLOWED_READING, SURFGIMLET_FILE_RANGE},
-#endif
     };
     size_t frame, beyond = 0;
     fill();
-#ifdef READING
     fill_many();
-#endif
     frame = taken(nothing);
     for (size_t i = 0; i < sizeof calls / sizeof calls[0]; i++) {
         size_t bytes;

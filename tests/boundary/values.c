@@ -5,18 +5,15 @@
 #include "lent.h"
 #include "surfgimlet.h"
 
-#define LEAST 32500 /* cases, so that an input cut short is noticed */
+#define LEAST 44500 /* cases, so that an input cut short is noticed */
 #define MOST_BYTES 200000 /* of a sheet or a file */
 
 /* an hour is a call of its own: start, set and move, in any order */
 enum { SOLID_TIDE, OWN_LINES, POLE_TIDE, OCEAN_TIDE, WRITE_FIELD, MOVE_C20, MULTIPLIERS_OF, NUMBER_OF, FIND_LINE, HOUR, ALL_LINES, MAJOR_LINES,
-#ifdef READING
-    FILE_HEAD, READ_FIELD,
-#endif
-    CALLS };
-static const char *names[] = {"solid_tide", "own_lines", "pole_tide", "ocean_tide", "write_field", "move_c20", "multipliers_of", "number_of",
+    FILE_HEAD, READ_FIELD, CALLS };
+static const char *names[CALLS] = {"solid_tide", "own_lines", "pole_tide", "ocean_tide", "write_field", "move_c20", "multipliers_of", "number_of",
     "find_line", "hour", "all_lines", "major_lines", "file_head", "read_field"};
-static const int numbers[][10] = {{0, 1, 2, 3, 4, 5, 6, 14, 100, -1}, {0, 1, 2, 12, 13, -1},
+static const int numbers[CALLS][10] = {{0, 1, 2, 3, 4, 5, 6, 14, 100, -1}, {0, 1, 2, 12, 13, -1},
     {0, 1, 2, 15, 100, -1}, {0, 1, 2, 7, 8, 16, 9, 100, -1}, {0, 1, 2, 21, 100, -1}, {0, 2, 100, -1}, {0, 10, -1}, {0, 10, -1}, {0, 10, 11, -1},
     {0, 100, -1}, {0, -1}, {0, -1}, {0, 17, 18, 19, 20, -1}, {0, 17, 18, 19, 20, 1, -1}};
 static long answered[CALLS][101], cases, differences;
@@ -206,7 +203,6 @@ static void an_hour(void)
     expect(HOUR, got.answer, told.answer, same_results(&got, &told));
 }
 
-#ifdef READING
 /* the four numbers of a file that is accepted */
 static void four(results *told)
 {
@@ -245,7 +241,6 @@ static void read_field(void)
     if (number == 0) { four(&told); list(&told_c); list(&told_s); }
     expect(READ_FIELD, answer, number, same(&c, &told_c) && same(&s, &told_s) && same_results(&got, &told) && !memcmp(kept, file, file_length));
 }
-#endif
 
 /* the two selections that are supplied */
 static void profile(int call)
@@ -299,22 +294,14 @@ int main(void)
             file_length = text(file);
             continue;
         }
-#ifndef READING
-        if (!strcmp(name, "file_head") || !strcmp(name, "read_field")) {
-            if (scanf("%*[^\n]")) return 1;
-            continue;
-        }
-#endif
         while (call < CALLS && strcmp(name, names[call])) call++;
         if (call == CALLS) { printf("values: no call is named %s\n", name); return 1; }
         if (call <= OCEAN_TIDE) over_field(call);
         else if (call == WRITE_FIELD) write_field();
         else if (call <= FIND_LINE) alone(call);
         else if (call == HOUR) an_hour();
-#ifdef READING
         else if (call == FILE_HEAD) file_head();
         else if (call == READ_FIELD) read_field();
-#endif
         else profile(call);
     }
     for (int call = 0; call < CALLS; call++) {
