@@ -17,7 +17,8 @@ static union { max_align_t aligned; uint8_t bytes[ROOM]; } stack;
 static ucontext_t here, there;
 static int64_t c[1891], s[1891], moved, first, second;
 static int32_t multipliers[6];
-static uint32_t number, answer;
+static uint32_t number, answer, system_of;
+static uint64_t constant, radius;
 static size_t place;
 static surfgimlet_own_line lines[64];
 static uint8_t sheet[70000];
@@ -65,10 +66,7 @@ static void move_c20(void) { answer = surfgimlet_move_c20(0, 0, 2, 1, &moved); }
 static void multipliers_of(void) { answer = surfgimlet_multipliers_of(165555, multipliers); }
 static void number_of(void) { answer = surfgimlet_number_of(multipliers, &number); }
 static void find_line(void) { answer = surfgimlet_find_line(255555, &place, &first, &second); }
-
 static void write_field(void) { answer = surfgimlet_write_field(60, c, 1891, s, 1891, 398600441500000u, 6378136300u, 1, file, sizeof file, &file_length); }
-static uint64_t constant, radius;
-static uint32_t system_of;
 static void file_head(void) { answer = surfgimlet_file_head(file, file_length, &number, &constant, &radius, &system_of); }
 static void read_many(void) { answer = surfgimlet_read_field((const uint8_t *)many, many_length, c, 1891, s, 1891, &number, &constant, &radius, &system_of); }
 static void read_field(void) { answer = surfgimlet_read_field(file, file_length, c, 1891, s, 1891, &number, &constant, &radius, &system_of); }
