@@ -19,6 +19,7 @@ use choices::LoveModel;
 use choices::PermanentSystem;
 use crossing::GivenBody;
 use hour::Hour;
+use icgem_read::FileTold;
 use own::OwnLine;
 
 const NO_SUCH_CHOICE: u32 = 100;
@@ -200,13 +201,8 @@ pub extern "C" fn surfgimlet_file_head(
 ) -> u32
     ensures { λ r. ⌜ Leaves (numbersOf (fileHead (now (text .entry)))) (headNumbers (now (degree .entry)) (now (constant .entry)) (now (radius .entry)) (now (system .entry))) r (headNumbers (now (degree .exit)) (now (constant .exit)) (now (radius .exit)) (now (system .exit))) ⌝ }
 {
-    leaving::leave_head(
-        surfgimlet::file_head(text),
-        degree,
-        constant,
-        radius,
-        system,
-    )
+    let told: FileTold = surfgimlet::file_head(text);
+    leaving::leave_head(told, degree, constant, radius, system)
 }
 
 // A file read. Refused as surfgimlet::read_field.
@@ -222,13 +218,8 @@ pub extern "C" fn surfgimlet_read_field(
 ) -> u32
     ensures { λ r. ⌜ LeavesField (readFile (now (text .entry)) (now (c .entry)) (now (s .entry))) (now (c .exit)) (now (s .exit)) (headNumbers (now (degree .entry)) (now (constant .entry)) (now (radius .entry)) (now (system .entry))) r (headNumbers (now (degree .exit)) (now (constant .exit)) (now (radius .exit)) (now (system .exit))) ⌝ }
 {
-    leaving::leave_head(
-        surfgimlet::read_field(text, c, s),
-        degree,
-        constant,
-        radius,
-        system,
-    )
+    let told: FileTold = surfgimlet::read_field(text, c, s);
+    leaving::leave_head(told, degree, constant, radius, system)
 }
 
 // A field written as text. Refused: 100, then as surfgimlet::write_field.

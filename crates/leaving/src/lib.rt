@@ -7,6 +7,7 @@ ghost use Rattle.lines.specs.Lines.{tells as tellsSought};
 ghost use Rattle.permanent.specs.Systems.{tells as tellsMoved};
 ghost use Rattle.selection.specs.Selection.{tells as tellsNamed};
 ghost use Rattle.leaving.specs.Leaving.{listedOf, found, headNumbers, numbersOf, Leaves};
+use choices::PermanentSystem;
 use doodson::Read;
 use doodson::Written;
 use icgem_read::FileTold;
@@ -64,7 +65,7 @@ pub fn leave_head(
 {
     match told {
         FileTold::Head(head) => {
-            let said = head.system;
+            let said: PermanentSystem = head.system;
             *degree = head.degree;
             *constant = head.constant;
             *radius = head.radius;
