@@ -1,4 +1,7 @@
 // A model sheet accepted, or refused with 7, 8, 16 or 9, in that order (document 01, and 02, T-09).
+
+#![tactic(auto)]
+
 ghost use Rattle.std.specs.Prelude.{◌≡◌, ◌≤◌};
 ghost use Rattle.refusals.specs.Numbers.{answer_number};
 ghost use Rattle.sheet.specs.Sheet.{line_count};

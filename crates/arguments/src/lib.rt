@@ -1,9 +1,12 @@
 // The six Doodson arguments: tau, s, h, p, N' (np here) and ps; the phase of a line, and arguments moved.
+
+#![tactic(auto)]
+
 ghost use Rattle.std.specs.Prelude.{◌≡◌, ◌^◌, pos, ◌*ℤ◌};
 ghost use Rattle.arguments.specs.Phase.{modulo, phase, multiplier_of, moved_by, moved_phases};
 
 // The name of an argument.
-#[derive(Drop)]
+#[derive(Clone, Copy)]
 pub enum Argument {
     Tau,
     S,
@@ -15,7 +18,7 @@ pub enum Argument {
 
 // The arguments as phases, a turn being 2^32; C passes them as they stand.
 #[repr(C)]
-#[derive(Drop)]
+#[derive(Clone, Copy)]
 pub struct Phases {
     pub tau: u32,
     pub s: u32,
@@ -26,7 +29,7 @@ pub struct Phases {
 }
 
 // A line's multipliers of the arguments.
-#[derive(Drop)]
+#[derive(Clone, Copy)]
 pub struct Multipliers {
     pub tau: i32,
     pub s: i32,

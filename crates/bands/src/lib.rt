@@ -1,10 +1,13 @@
 // A line of a band (001, eqs. 5; document 01, "Step two"; document 02, T-01 and T-02): what it adds to C20, C21, S21, C22 and S22, its amplitudes and its
 // waves being given, and the five corrections that lines add up to.
+
+#![tactic(auto)]
+
 ghost use Rattle.std.specs.Prelude.{◌≡◌, ◌+ℤ◌, ◌*ℤ◌};
 ghost use Rattle.bands.specs.Bands.{plus_line};
 ghost use Rattle.bands.specs.Inner.{Room, LineRoom, Bounded, rounded_of};
 
-#[derive(Drop)]
+#[derive(Clone, Copy)]
 pub enum Band {
     Diurnal,
     LongPeriod,
@@ -12,7 +15,7 @@ pub enum Band {
 }
 
 // Its in-phase and its out-of-phase amplitude are in counts.
-#[derive(Drop)]
+#[derive(Clone, Copy)]
 pub struct Line {
     pub band: Band,
     pub ip: i64,
@@ -20,7 +23,7 @@ pub struct Line {
 }
 
 // Amplitudes times waves, added up over lines.
-#[derive(Drop)]
+#[derive(Clone, Copy)]
 pub struct Sums {
     pub c20: i64,
     pub c21: i64,
@@ -30,7 +33,7 @@ pub struct Sums {
 }
 
 // The five corrections, in counts.
-#[derive(Drop)]
+#[derive(Clone, Copy)]
 pub struct Corrections {
     pub c20: i64,
     pub c21: i64,

@@ -1,4 +1,7 @@
 // The Moon and the Sun (document 01, "Step one"): a body's place, its direction, and refusals 3, 4 and 5.
+
+#![tactic(auto)]
+
 ghost use Rattle.std.specs.Prelude.{◌≡◌};
 ghost use Rattle.bodies.specs.Bodies.{all_finite, finite_place, finite_body, in_reach, direction_of, of_length_one, sighted, tells};
 
@@ -10,21 +13,21 @@ use refusals::Refusal;
 const TOLERANCE: f64 = 0.0000000000009094947017729282379150390625;
 
 // Rectangular: x, y, z and the distance r, in metres. Directional: u, v, w of a direction of length one, and r in metres. Axes are Earth-fixed.
-#[derive(Drop)]
+#[derive(Clone, Copy)]
 pub enum Place {
     Rectangular(f64, f64, f64, f64),
     Directional(f64, f64, f64, f64),
 }
 
 // The ratio is the mass to the Earth's.
-#[derive(Drop)]
+#[derive(Clone, Copy)]
 pub struct Body {
     pub ratio: f64,
     pub place: Place,
 }
 
 // A direction of length one with the distance r in metres.
-#[derive(Drop)]
+#[derive(Clone, Copy)]
 pub struct Direction {
     pub u: f64,
     pub v: f64,
@@ -32,7 +35,7 @@ pub struct Direction {
     pub r: f64,
 }
 
-#[derive(Drop)]
+#[derive(Clone, Copy)]
 pub enum Sight {
     At(Direction),
     Refused(Refusal),

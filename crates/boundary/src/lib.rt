@@ -1,5 +1,8 @@
 // The unit's calls for C: the functions of include/surfgimlet.h, each over the public call of its name.
 // Closed choices come as numbers; one that names no case is answered by 100, before anything else is looked at.
+
+#![tactic(auto)]
+
 ghost use Rattle.std.specs.Prelude.{◌≡◌};
 ghost use Rattle.crossing.specs.Choices.{unlisted};
 ghost use Rattle.doodson.specs.Doodson.{write_doodson};

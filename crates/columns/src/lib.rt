@@ -1,4 +1,7 @@
 // Words and numbers at the end of so many columns, put into a lent buffer; the answer is the place after them.
+
+#![tactic(auto)]
+
 ghost use Rattle.std.specs.Prelude.{◌≡◌, ◌++◌, ◌+◌, ◌^◌, ◌≤◌, length};
 ghost use Rattle.text.specs.Inner.{Put};
 ghost use Rattle.text.specs.Text.{decimal, fixed_point, sign, padded};

@@ -1,5 +1,8 @@
 // Step one's tables: Love numbers (001, Table 6.1) and the normalization factors (001, eq. 2). A `const` has no contract: each table's rule is shown
 // of the function that answers it.
+
+#![tactic(auto)]
+
 ghost use Rattle.std.specs.Prelude.{◌≡◌};
 ghost use Rattle.constants.specs.Love.{loves, loves3};
 ghost use Rattle.constants.specs.Norms.{norms};
@@ -7,14 +10,14 @@ ghost use Rattle.constants.specs.Norms.{norms};
 use choices::LoveModel;
 
 // A complex Love number.
-#[derive(Drop)]
+#[derive(Clone, Copy)]
 pub struct Love {
     pub re: f64,
     pub im: f64,
 }
 
 // k of degree 2, and k+ from degree 2 to degree 4.
-#[derive(Drop)]
+#[derive(Clone, Copy)]
 pub struct Loves {
     pub k20: Love,
     pub k21: Love,
@@ -25,7 +28,7 @@ pub struct Loves {
 }
 
 // k of degree 3.
-#[derive(Drop)]
+#[derive(Clone, Copy)]
 pub struct Loves3 {
     pub k30: Love,
     pub k31: Love,
@@ -34,7 +37,7 @@ pub struct Loves3 {
 }
 
 // N of each degree and order.
-#[derive(Drop)]
+#[derive(Clone, Copy)]
 pub struct Norms {
     pub n20: f64,
     pub n21: f64,

@@ -1,5 +1,8 @@
 // What crosses from C as numbers: the closed choices, the bodies and a list of multipliers. A choice has a test, whether the number names a case, and a
 // conversion, total so that it can stand behind the test; include/surfgimlet.h has the numbers.
+
+#![tactic(auto)]
+
 ghost use Rattle.std.specs.Prelude.{◌≡◌};
 ghost use Rattle.crossing.specs.Choices.{love_model, frame_of, permanent_system, argument_of, body_of, unlisted, system_number};
 ghost use Rattle.crossing.specs.Inner.{names, Converts};
@@ -10,7 +13,7 @@ use choices::{Frame, LoveModel, PermanentSystem};
 
 // Kind 0: x, y, z in metres; kind 1: a direction's u, v, w. The distance r is in metres, the ratio the mass to the Earth's.
 #[repr(C)]
-#[derive(Drop)]
+#[derive(Clone, Copy)]
 pub struct GivenBody {
     pub kind: u32,
     pub ratio: f64,

@@ -1,17 +1,20 @@
 // Doodson numbers (001, note to Table 6.2; document 01, "Doodson numbers"): six multipliers in six decimal digits.
+
+#![tactic(auto)]
+
 ghost use Rattle.std.specs.Prelude.{◌≡◌, true, ◌+◌, ◌*◌, ◌≤◌, pos, nat_abs, ◌+ℤ◌, ◌-ℤ◌};
 ghost use Rattle.doodson.specs.Doodson.{multipliers_in, writable, other, read_doodson, write_doodson, tells_read, tells_written};
 
 use arguments::Multipliers;
 use refusals::Refusal;
 
-#[derive(Drop)]
+#[derive(Clone, Copy)]
 pub enum Read {
     Multipliers(Multipliers),
     Refused(Refusal),
 }
 
-#[derive(Drop)]
+#[derive(Clone, Copy)]
 pub enum Written {
     Number(u32),
     Refused(Refusal),

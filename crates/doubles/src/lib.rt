@@ -1,4 +1,7 @@
 // f64: how document 01 writes its numbers and operations, and the test that a float is finite.
+
+#![tactic(auto)]
+
 ghost use Rattle.std.specs.Prelude.{◌≡◌};
 ghost use Rattle.doubles.specs.Doubles.{finite};
 

@@ -1,4 +1,7 @@
 // The field (document 01, "Units and the field"): two lent lists of signed counts, what refuses them, and the one writer to them.
+
+#![tactic(auto)]
+
 ghost use Rattle.std.specs.Prelude.{◌≡◌, ◌+◌, ◌%◌, ◌^◌, ◌<◌, ◌≤◌, true, length, pos, if◌then◌else◌, slice_index_or, unsigned_abs};
 ghost use Rattle.refusals.specs.Numbers.{answer_number};
 ghost use Rattle.field.specs.Added.{corrected};

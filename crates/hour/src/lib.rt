@@ -1,4 +1,7 @@
 // The hour record (document 02, T-08): six phases, and the waves of the printed lines that were worked out from them.
+
+#![tactic(auto)]
+
 ghost use Rattle.std.specs.Prelude.{◌≡◌, length};
 ghost use Rattle.wave.specs.Wave.{sin, cos};
 ghost use Rattle.hour.specs.Hour.{hour_at, start_hour, renewed, moved_hour};
@@ -8,7 +11,7 @@ use arguments::{Argument, Multipliers, Phases};
 
 // The cosines and the sines are in units of 2^-30, in the order of the printed lines; C passes the record as it stands.
 #[repr(C)]
-#[derive(Drop)]
+#[derive(Clone, Copy)]
 pub struct Hour {
     pub phases: Phases,
     pub cosines: [i32; 49],
@@ -16,7 +19,7 @@ pub struct Hour {
 }
 
 // The lines whose waves are worked out afresh.
-#[derive(Drop)]
+#[derive(Clone, Copy)]
 enum Renewed {
     All,
     Having(Argument),

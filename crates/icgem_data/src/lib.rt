@@ -1,4 +1,7 @@
 // The coefficient lines of a gravity field file (document 02, T-10), read in one pass.
+
+#![tactic(auto)]
+
 ghost use Rattle.std.specs.Prelude.{◌≡◌, true, false, ◌&&◌, ◌^◌, ◌≤◌, ◌<◌, ltb, length, drop, set};
 ghost use Rattle.whole.specs.Nearest.{signed};
 ghost use Rattle.field.specs.Field.{place};
@@ -11,7 +14,7 @@ ghost use Rattle.icgem_data.specs.Inner.{FiveWords, CountTaken, StandsHeld, Plac
 use icgem_words::Span;
 
 // The first five words of a line.
-#[derive(Drop)]
+#[derive(Clone, Copy)]
 struct Five {
     key: Span,
     degree: Span,
@@ -48,7 +51,7 @@ fn word_of(line: &[u8], word: Span) -> &[u8]
 }
 
 // A decimal in units of 10^-15, where the word is one, and whether it is an entry.
-#[derive(Drop)]
+#[derive(Clone, Copy)]
 struct Count {
     ok: bool,
     inside: bool,
@@ -103,7 +106,7 @@ fn index_past(over: bool, degree: u64, order: u64) -> usize
     }
 }
 
-#[derive(Drop)]
+#[derive(Clone, Copy)]
 struct Place {
     ok: bool,
     at: usize,
@@ -127,7 +130,7 @@ fn place_of(degree: &[u8], order: &[u8], most: &[u8]) -> Place
 }
 
 // A coefficient line: whether it is one, whether both its counts are entries, where they stand, and they.
-#[derive(Drop)]
+#[derive(Clone, Copy)]
 pub struct Coefficients {
     pub ok: bool,
     pub inside: bool,
@@ -203,7 +206,7 @@ fn store(list: &mut [i64], at: usize, value: i64)
 }
 
 // The lines of a pass: whether all are coefficient lines, whether all their counts are entries, and how many they are.
-#[derive(Drop)]
+#[derive(Clone, Copy)]
 pub struct Lines {
     pub ok: bool,
     pub inside: bool,

@@ -1,23 +1,26 @@
 // Whole numbers and decimals of a gravity field file, taken exactly.
+
+#![tactic(auto)]
+
 ghost use Rattle.std.specs.Prelude.{◌≡◌, ◌+◌, ◌-◌, ◌*◌, ◌^◌, ◌<◌, ◌≤◌, min, max, true, ◌++◌, length, take, ◌==◌, nat_le, slice_index};
 ghost use Rattle.icgem_decimal.specs.Decimal.{is_digit, all_digits, is_whole, is_minus, unsigned, value_of, is_exponent, Held, WholeTaken, Taken};
 ghost use Rattle.icgem_decimal.specs.Inner.{Mapped, rounded, half, parting, before, after, in_places, padded};
 
 // A number, or that it is 2^64 or more.
-#[derive(Drop)]
+#[derive(Clone, Copy)]
 struct Sum {
     over: bool,
     value: u64,
 }
 
-#[derive(Drop)]
+#[derive(Clone, Copy)]
 pub struct Whole {
     pub ok: bool,
     pub over: bool,
     pub value: u64,
 }
 
-#[derive(Drop)]
+#[derive(Clone, Copy)]
 pub struct Decimal {
     pub ok: bool,
     pub negative: bool,

@@ -1,4 +1,7 @@
 // The header of a gravity field file (document 02, T-10), read from its text.
+
+#![tactic(auto)]
+
 ghost use Rattle.std.specs.Prelude.{◌≡◌, ◌≤◌, ◌<◌, length};
 ghost use Rattle.icgem_decimal.specs.Decimal.{is_whole};
 ghost use Rattle.icgem_file.specs.File.{system_said};
@@ -13,7 +16,7 @@ use choices::PermanentSystem;
 use icgem_words::Span;
 
 // The first line with a key, and where the next line begins; all at the text's end where there is none.
-#[derive(Drop)]
+#[derive(Clone, Copy)]
 struct Found {
     found: bool,
     at: usize,
@@ -22,7 +25,7 @@ struct Found {
 }
 
 // Whether a known entry is there, whether it stands once at most and has a value, and the value's place.
-#[derive(Drop)]
+#[derive(Clone, Copy)]
 struct Entry {
     found: bool,
     kept: bool,
@@ -30,14 +33,14 @@ struct Entry {
     to: usize,
 }
 
-#[derive(Drop)]
+#[derive(Clone, Copy)]
 struct Number {
     ok: bool,
     value: u64,
 }
 
 // The entries whose values are numbers; `from` and `to` are the degree's.
-#[derive(Drop)]
+#[derive(Clone, Copy)]
 struct Numbers {
     kept: bool,
     there: bool,
@@ -49,14 +52,14 @@ struct Numbers {
 }
 
 // A permanent system that is named, or none of the three.
-#[derive(Drop)]
+#[derive(Clone, Copy)]
 pub enum System {
     Said(PermanentSystem),
     Unknown,
 }
 
 // An entry, and whether its value is a given word.
-#[derive(Drop)]
+#[derive(Clone, Copy)]
 struct Kind {
     found: bool,
     kept: bool,
@@ -64,7 +67,7 @@ struct Kind {
 }
 
 // The entries whose values are words.
-#[derive(Drop)]
+#[derive(Clone, Copy)]
 struct Kinds {
     kept: bool,
     there: bool,
@@ -72,7 +75,7 @@ struct Kinds {
     system: System,
 }
 
-#[derive(Drop)]
+#[derive(Clone, Copy)]
 struct Entries {
     ok: bool,
     from: usize,
@@ -83,14 +86,14 @@ struct Entries {
 }
 
 // Where the entries begin, and whether begin_of_head stands once at most.
-#[derive(Drop)]
+#[derive(Clone, Copy)]
 struct Start {
     once: bool,
     from: usize,
 }
 
 // Where the data begin, the place of the degree's word, m3/s2, millimetres, and the system.
-#[derive(Drop)]
+#[derive(Clone, Copy)]
 pub struct Header {
     pub ok: bool,
     pub data: usize,

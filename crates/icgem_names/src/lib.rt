@@ -1,1 +1,3 @@
 // The words of a gravity field file.
+
+#![tactic(auto)]

@@ -1,4 +1,7 @@
 // A gravity field file read (document 02, T-10): from lent bytes into two lent lists.
+
+#![tactic(auto)]
+
 ghost use Rattle.std.specs.Prelude.{◌≡◌, true, cond, ◌≤◌, length, take, drop};
 ghost use Rattle.icgem_decimal.specs.Decimal.{is_whole, value_of};
 ghost use Rattle.icgem_file.specs.File.{file_head, read_file};
@@ -16,14 +19,14 @@ use icgem_header::{Header, System};
 use refusals::{Answer, Refusal};
 
 // What a file says beside its coefficients.
-#[derive(Drop)]
+#[derive(Clone, Copy)]
 pub enum FileTold {
     Head(FileHead),
     Refused(Refusal),
 }
 
 // A file gone through: its own refusal, and what it says where there is none.
-#[derive(Drop)]
+#[derive(Clone, Copy)]
 struct Passed {
     answer: Answer,
     head: FileHead,

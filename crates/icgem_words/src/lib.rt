@@ -1,4 +1,7 @@
 // The lines and words of a gravity field file (document 02, T-10): where each ends, and whether two words are the same.
+
+#![tactic(auto)]
+
 ghost use Rattle.std.specs.Prelude.{◌≡◌, ◌≤◌, length, drop};
 ghost use Rattle.icgem_words.specs.Words.{is_line_end, is_blank, words, same_word};
 ghost use Rattle.icgem_words.specs.Inner.{in_line, is_of, Run, NextWord};
@@ -16,7 +19,7 @@ pub fn is_blank(b: u8) -> bool
 }
 
 // Whose bytes a run is of.
-#[derive(Drop)]
+#[derive(Clone, Copy)]
 enum Kind {
     Line,
     Word,
@@ -57,7 +60,7 @@ pub fn line_end(text: &[u8], from: usize) -> usize
     run_end(text, from, Kind::Line)
 }
 
-#[derive(Drop)]
+#[derive(Clone, Copy)]
 pub struct Span {
     pub from: usize,
     pub to: usize,

@@ -1,4 +1,7 @@
 // The text of a field (document 02, T-10), put into a lent buffer line by line; the answer is the place after it.
+
+#![tactic(auto)]
+
 ghost use Rattle.std.specs.Prelude.{◌≡◌, suc, ◌+◌, ◌*◌, ◌^◌, ◌≤◌, ◌<◌, nat_abs, length};
 ghost use Rattle.field.specs.Field.{size};
 ghost use Rattle.icgem_names.specs.Names.{system_name, radius as radiusName};
@@ -12,7 +15,7 @@ use choices::PermanentSystem;
 use refusals::{Answer, Refusal};
 
 // How many bytes were written.
-#[derive(Drop)]
+#[derive(Clone, Copy)]
 pub enum Wrote {
     Bytes(usize),
     Refused(Refusal),

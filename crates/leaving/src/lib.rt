@@ -1,5 +1,8 @@
 // What a call answers to C beside its number: each value goes to the lent memory that is its own, and where the call is refused the
 // memory keeps what it holds.
+
+#![tactic(auto)]
+
 ghost use Rattle.doodson.specs.Doodson.{tells_read, tells_written};
 ghost use Rattle.icgem_read.specs.Told.{tells as tellsFile};
 ghost use Rattle.icgem_write.specs.Outcome.{tells as tellsWrote};

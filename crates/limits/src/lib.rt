@@ -1,4 +1,7 @@
 // The bounds of documents 01 and 02, each named once: a test of a number. A direction's tolerance and a digit's range stand with their rules.
+
+#![tactic(auto)]
+
 ghost use Rattle.std.specs.Prelude.{◌≡◌};
 ghost use Rattle.limits.specs.Limits.{is_degree, is_entry, is_distance, is_ratio, is_countable, is_doodson, is_line_count, is_tide_count, is_place_count, is_multiplier, is_row_total, is_sheet_degree, is_coefficient, is_record_count, is_first_multiplier, is_amplitude, is_selection, is_pole_offset};
 

@@ -1,4 +1,7 @@
 // The 49 printed lines (001, Tables 6.2; document 01, "Step two"): diurnal, long period, semidiurnal.
+
+#![tactic(auto)]
+
 ghost use Rattle.std.specs.Prelude.{◌≡◌, ◌≤◌, ◌<◌, nat_abs};
 ghost use Rattle.lines.specs.Lines.{band_at, in_model, printed_line, find_line, tells};
 ghost use Rattle.lines.specs.Inner.{number_in, multipliers_by, line_with, digits as digitsColumn, firsts, seconds};
@@ -32,7 +35,7 @@ const SECOND: [i16; 49] = [
 ];
 
 // The printed tables. A call takes them once and looks its lines up there.
-#[derive(Drop)]
+#[derive(Clone, Copy)]
 pub struct Tables {
     pub digits: [u32; 49],
     pub first: [i16; 49],
@@ -123,7 +126,7 @@ pub fn printed_line(first: &[i16; 49], second: &[i16; 49], love: LoveModel, i: u
     line_in(band_at(i), love, first[i] as i64, second[i] as i64)
 }
 
-#[derive(Drop)]
+#[derive(Clone, Copy)]
 pub enum Sought {
     Line {
         index: usize,

@@ -1,4 +1,7 @@
 // The listing of step two's corrections (document 01, "Cases"), as text in a lent buffer.
+
+#![tactic(auto)]
+
 ghost use Rattle.std.specs.Prelude.{◌≡◌, ◌+◌, ◌*◌, ◌≤◌, length};
 ghost use Rattle.text.specs.Inner.{Put};
 ghost use Rattle.listing.specs.Listing.{phases_of, columns, model_text, models_text, Listed};

@@ -1,4 +1,7 @@
 // The ocean tide of a model sheet (002; document 01, "Model sheet and ocean tide"), added to two lists.
+
+#![tactic(auto)]
+
 ghost use Rattle.places.specs.Inner.{WithFactors};
 ghost use Rattle.sheet.specs.Inner.{Passed};
 ghost use Rattle.ocean.specs.Inner.{Wide, PlacesAdded, TideAdded};

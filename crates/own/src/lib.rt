@@ -1,4 +1,7 @@
 // Tide lines of an operator's own (document 02, T-01): a lent list of records, tested one by one, and the five sums that they add up to.
+
+#![tactic(auto)]
+
 ghost use Rattle.std.specs.Prelude.{◌≡◌, true};
 ghost use Rattle.bands.specs.Inner.{Bounded};
 ghost use Rattle.own.specs.Own.{band_of, multipliers_of, in_range, line_of};
@@ -10,7 +13,7 @@ use refusals::{Answer, Refusal};
 
 // A line as an operator lends it: its six multipliers and its two amplitudes, in tenths of 10^-12. C passes it as it stands.
 #[repr(C)]
-#[derive(Drop)]
+#[derive(Clone, Copy)]
 pub struct OwnLine {
     pub tau: i32,
     pub s: i32,
@@ -23,7 +26,7 @@ pub struct OwnLine {
 }
 
 // What the records read so far add up to, or why the list is refused.
-#[derive(Drop)]
+#[derive(Clone, Copy)]
 pub struct Summed {
     pub answer: Answer,
     pub sums: Sums,

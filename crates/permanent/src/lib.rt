@@ -1,4 +1,7 @@
 // The permanent tide of C20 (001, "Treatment of the Permanent Tide"; document 01, "Permanent systems").
+
+#![tactic(auto)]
+
 ghost use Rattle.std.specs.Prelude.{◌≡◌};
 ghost use Rattle.permanent.specs.Systems.{permanent_part, above_tide_free, moved_c20, tells};
 
@@ -8,7 +11,7 @@ use refusals::Refusal;
 // What a mean C20 has more than a zero one, in counts: A0*H0, the tide itself.
 const MEAN_ABOVE_ZERO: i64 = -13914129;
 
-#[derive(Drop)]
+#[derive(Clone, Copy)]
 pub enum Moved {
     C20(i64),
     Refused(Refusal),

@@ -1,4 +1,7 @@
 // The correction of each place of a sheet (002; document 01, "Model sheet and ocean tide"), and where it stands in a list.
+
+#![tactic(auto)]
+
 ghost use Rattle.std.specs.Prelude.{◌≡◌, ◌+◌, ◌*◌, ◌^◌, ◌<◌, nat_abs, ◌+ℤ◌, ◌*ℤ◌};
 ghost use Rattle.sheet.specs.Inner.{Passed};
 ghost use Rattle.sheet.specs.Sheet.{place_count};
@@ -9,14 +12,14 @@ use choices::Frame;
 use sheet::Layout;
 
 // What a place's C and S gain, in counts.
-#[derive(Drop)]
+#[derive(Clone, Copy)]
 pub struct Correction {
     pub c: i64,
     pub s: i64,
 }
 
 // A place's two sums over the tides, in 2^-30 counts.
-#[derive(Drop)]
+#[derive(Clone, Copy)]
 pub struct PlaceSums {
     pub c: i64,
     pub s: i64,

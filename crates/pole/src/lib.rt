@@ -1,4 +1,7 @@
 // The solid pole tide (001, "Solid Earth Pole Tide"; document 02, T-05): what the pole's offsets xp and yp from its mean add to C21 and S21.
+
+#![tactic(auto)]
+
 ghost use Rattle.std.specs.Prelude.{true, ◌≡◌, pos, ◌+ℤ◌, ◌*ℤ◌};
 ghost use Rattle.limits.specs.Limits.{is_pole_offset};
 ghost use Rattle.pole.specs.Pole.{offsets_refusal, corrections};
@@ -9,7 +12,7 @@ use choices::LoveModel;
 use refusals::{Answer, Refusal};
 
 // In counts.
-#[derive(Drop)]
+#[derive(Clone, Copy)]
 pub struct Corrections {
     pub c21: i64,
     pub s21: i64,

@@ -1,4 +1,7 @@
 // The tide-generating potential of the Moon and the Sun (001, eqs. 1 and 2; document 01, "Step one"): P and Q of each degree and order.
+
+#![tactic(auto)]
+
 ghost use Rattle.std.specs.Prelude.{◌≡◌};
 ghost use Rattle.potential.specs.Potential.{terms, shared};
 ghost use Rattle.potential.specs.Inner.{strengths, paired};
@@ -8,13 +11,13 @@ use constants::{Norms, norms_of};
 use powers::{Power, powers_of};
 
 // P and Q: the real and the imaginary part.
-#[derive(Drop)]
+#[derive(Clone, Copy)]
 pub struct Pair {
     pub p: f64,
     pub q: f64,
 }
 
-#[derive(Drop)]
+#[derive(Clone, Copy)]
 pub struct Potential {
     pub nm20: Pair,
     pub nm21: Pair,
@@ -26,7 +29,7 @@ pub struct Potential {
 }
 
 // t of each degree and order.
-#[derive(Drop)]
+#[derive(Clone, Copy)]
 pub struct Strengths {
     pub t20: f64,
     pub t21: f64,

@@ -1,9 +1,12 @@
 // E(m) and F(m), the real and the imaginary part of (u + iv)^m: two functions that call each other with the order falling.
+
+#![tactic(auto)]
+
 ghost use Rattle.std.specs.Prelude.{◌≡◌, ◌%◌};
 ghost use Rattle.powers.specs.Powers.{power, next, powers};
 
 // E and F of one order.
-#[derive(Drop)]
+#[derive(Clone, Copy)]
 pub struct Power {
     pub e: f64,
     pub f: f64,

@@ -1,4 +1,7 @@
 // The two selections of printed lines that are supplied (document 02, T-04).
+
+#![tactic(auto)]
+
 ghost use Rattle.std.specs.Prelude.{◌≡◌};
 ghost use Rattle.profiles.specs.Profiles.{all_lines, major_lines};
 

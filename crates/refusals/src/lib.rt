@@ -1,10 +1,13 @@
 // What a call answers: accepted, or refused with a number (document 01, "Refusal numbers", and the requests of 02 that add one).
+
+#![tactic(auto)]
+
 ghost use Rattle.std.specs.Prelude.{◌≡◌};
 ghost use Rattle.refusals.specs.Numbers.{refusal_number, answer_number};
 ghost use Rattle.refusals.specs.Outcome.{first_of};
 
 // Why a call is refused; specs/Numbers.antt has the number of each.
-#[derive(Drop)]
+#[derive(Clone, Copy)]
 pub enum Refusal {
     FieldShape,
     FieldRange,
@@ -30,7 +33,7 @@ pub enum Refusal {
 }
 
 // The answer of a call whose results stand in lent memory.
-#[derive(Drop)]
+#[derive(Clone, Copy)]
 pub enum Answer {
     Accepted,
     Refused(Refusal),

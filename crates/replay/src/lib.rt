@@ -1,5 +1,8 @@
 // Stored cases: numbers read from standard input, little-endian, and lines of decimal numbers written to standard output.
 // Past the input's end every number read is 0.
+
+#![tactic(auto)]
+
 ghost use Rattle.std.specs.Prelude.{◌≡◌, ◌≤◌, ◌<◌, length, take};
 ghost use Rattle.io.specs.Counts.{IsPrefixLen};
 

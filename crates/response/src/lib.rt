@@ -1,4 +1,7 @@
 // The Earth's response to the potential (001, eqs. 1 and 4; document 01, "Step one"): dC and dS of degree 2, 3 and 4.
+
+#![tactic(auto)]
+
 ghost use Rattle.std.specs.Prelude.{◌≡◌};
 ghost use Rattle.response.specs.Response.{changes};
 
@@ -9,7 +12,7 @@ use potential::Potential;
 const COUNTS: f64 = 1000000000000000.0;
 
 // d_c and d_s in counts, before rounding, at the places 20, 21, 22, 30, 31, 32, 33, 40, 41, 42; d_s is 0 at order 0.
-#[derive(Drop)]
+#[derive(Clone, Copy)]
 pub struct Changes {
     pub c: [f64; 10],
     pub s: [f64; 10],

@@ -1,5 +1,8 @@
 // Runs the unit's calls on stored cases: a byte for the call, and what the call takes. A line each: the answer's number, 0 where the call is
 // accepted, and what it answers; of a call over a field, then every entry of both lists as they are afterwards.
+
+#![tactic(auto)]
+
 use arguments::{Argument, Multipliers, Phases};
 use bodies::{Body, Place};
 use choices::{Frame, LoveModel, PermanentSystem};

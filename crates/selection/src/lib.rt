@@ -1,4 +1,7 @@
 // Which of the printed lines step two uses (document 02, T-04): a selection is a 64-bit number whose bit i stands for line i, in 01's order.
+
+#![tactic(auto)]
+
 ghost use Rattle.std.specs.Prelude.{◌≡◌, ◌<◌};
 ghost use Rattle.refusals.specs.Numbers.{answer_number};
 ghost use Rattle.selection.specs.Selection.{names as namesLine, lines_named, selection_refusal};
@@ -6,7 +9,7 @@ ghost use Rattle.selection.specs.Selection.{names as namesLine, lines_named, sel
 use refusals::{Answer, Refusal};
 
 // The answer of a call that takes a selection.
-#[derive(Drop)]
+#[derive(Clone, Copy)]
 pub enum Named {
     // How many lines the selection names.
     Lines(u32),

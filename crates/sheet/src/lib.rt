@@ -1,4 +1,7 @@
 // A model sheet's bytes: where its sections stand, and its numbers read. Nothing is tested here.
+
+#![tactic(auto)]
+
 ghost use Rattle.std.specs.Prelude.{◌≡◌, ◌^◌, ◌≤◌, ◌<◌, nat_abs};
 ghost use Rattle.sheet.specs.Sheet.{line_count, tide_count, place_count, row_start, place_start, multipliers, admittance, degree, order, coefficient};
 ghost use Rattle.sheet.specs.Inner.{Laid, Whole};
@@ -6,7 +9,7 @@ ghost use Rattle.sheet.specs.Inner.{Laid, Whole};
 use arguments::Multipliers;
 
 // The three counts, where the first row and the first place stand, and where the sheet ends.
-#[derive(Drop)]
+#[derive(Clone, Copy)]
 pub struct Layout {
     pub lines: usize,
     pub tides: usize,

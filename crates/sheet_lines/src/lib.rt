@@ -1,4 +1,7 @@
 // The lines and the rows of a model sheet, tested (document 01, refusal 8).
+
+#![tactic(auto)]
+
 ghost use Rattle.std.specs.Prelude.{◌≡◌, ◌≤◌, ◌<◌};
 ghost use Rattle.whole.specs.Sum.{weight_to, all_to};
 ghost use Rattle.sheet.specs.Sheet.{line_count, tide_count, admittance};

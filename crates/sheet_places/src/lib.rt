@@ -1,4 +1,7 @@
 // The places of a model sheet, tested (document 01, refusal 8).
+
+#![tactic(auto)]
+
 ghost use Rattle.std.specs.Prelude.{◌≡◌, ◌+◌, ◌*◌, ◌<◌, ◌≤◌, ◌&&◌, length};
 ghost use Rattle.whole.specs.Sum.{all_to};
 ghost use Rattle.sheet.specs.Sheet.{tide_count, place_count};

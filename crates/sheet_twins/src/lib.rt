@@ -1,5 +1,8 @@
 // Twin lines of a model sheet (document 02, T-09, refusal 16): two lines with the same six multipliers.
 // A line in range is one number, its key, so that two lines are compared at once.
+
+#![tactic(auto)]
+
 ghost use Rattle.std.specs.Prelude.{true, not, ◌≡◌, ◌+◌, ◌≤◌, ◌<◌, nat_abs, length};
 ghost use Rattle.whole.specs.Sum.{all_to};
 ghost use Rattle.sheet.specs.Sheet.{line_count};

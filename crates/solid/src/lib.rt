@@ -1,4 +1,7 @@
 // The solid tide (document 02, T-06): the corrections of both its steps, as one.
+
+#![tactic(auto)]
+
 ghost use Rattle.std.specs.Prelude.{[], ◌∷◌, ◌≡◌};
 ghost use Rattle.solid.specs.Solid.{plus, with_lines};
 ghost use Rattle.solid.specs.Inner.{ThreeSmall, Room, counts_in};

@@ -1,4 +1,7 @@
 // Solid tide, step one (001, eqs. 1 to 7; document 01, "Step one"): what the Moon and the Sun add to a field.
+
+#![tactic(auto)]
+
 ghost use Rattle.std.specs.Prelude.{◌≡◌, T};
 ghost use Rattle.refusals.specs.Numbers.{refusal_number};
 ghost use Rattle.refusals.specs.Told.Told.{refused};
@@ -16,7 +19,7 @@ use refusals::{Answer, Refusal};
 use response::{Changes, changes_of};
 
 // The counts to add to C and S at 20, 21, 22, 30, 31, 32, 33, 40, 41, 42; none where refused.
-#[derive(Drop)]
+#[derive(Clone, Copy)]
 pub struct Corrections {
     pub answer: Answer,
     pub c: [i64; 10],

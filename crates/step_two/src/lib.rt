@@ -1,5 +1,8 @@
 // Step two of the solid tide (001, Tables 6.2; document 01, "Step two"; document 02, T-04 and T-08): what the printed lines that a selection names add
 // to degree two, over the waves that an hour record holds.
+
+#![tactic(auto)]
+
 ghost use Rattle.std.specs.Prelude.{◌≡◌, ◌+◌, ◌<◌};
 ghost use Rattle.bands.specs.Inner.{sums_of, Bounded, Small};
 ghost use Rattle.lines.specs.Inner.{firsts, seconds};

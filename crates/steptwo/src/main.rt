@@ -1,5 +1,8 @@
 // The program `steptwo` (document 01, "Cases"): 24 bytes of standard input, six little-endian phases, give the listing; any other
 // number of bytes gives the line `refused`. 25 bytes are read at most, which is enough to tell.
+
+#![tactic(auto)]
+
 use libc::{STDERR_FILENO, STDIN_FILENO, STDOUT_FILENO};
 
 fn main() {

@@ -1,6 +1,9 @@
 // Surfgimlet: tide corrections to the coefficients of a gravity field, and the permanent tide of C20. These are all its calls.
 // A field of degree n is two lent lists of counts of 10^-15, C and S, of (n+1)(n+2)/2 entries, place (n,m) at n(n+1)/2+m.
 // A call over a field tests, works out and adds. It answers Accepted, or Refused with every entry of both lists as it was.
+
+#![tactic(auto)]
+
 ghost use Rattle.std.specs.Prelude.{◌≡◌};
 ghost use Rattle.bands.specs.Bands.{for_c, for_s};
 ghost use Rattle.bands.specs.Inner.{Bounded, rounded_of};

@@ -1,4 +1,7 @@
 // Text in a lent buffer: bytes, words and decimal numbers, each put at a place; the answer is the place after it.
+
+#![tactic(auto)]
+
 ghost use Rattle.std.specs.Prelude.{[], ◌∷◌, ◌≡◌, ◌+◌, ◌≤◌, ◌<◌, length};
 ghost use Rattle.text.specs.Text.{decimal, number, last_digits, spaces};
 ghost use Rattle.text.specs.Inner.{Put};

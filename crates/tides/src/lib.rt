@@ -1,5 +1,8 @@
 // The factors of a sheet's tides (document 01, "Model sheet and ocean tide"): each line's phase, sine and cosine once, each tide's sums once.
 // Admittances and waves are raised until they are unsigned, since a processor multiplies two pairs of unsigned 32-bit numbers at a time.
+
+#![tactic(auto)]
+
 ghost use Rattle.std.specs.Prelude.{◌≡◌, ◌+◌, ◌*◌, ◌^◌, ◌≤◌, ◌<◌, pos, nat_abs, ◌+ℤ◌, ◌-ℤ◌, length};
 ghost use Rattle.sheet.specs.Inner.{Passed};
 ghost use Rattle.sheet.specs.Sheet.{line_count, tide_count};
@@ -15,7 +18,7 @@ const ADMITTANCE: u32 = 4194304;
 const WAVE: u32 = 1073741824;
 
 // A row's admittances times the lines' cosines, and times their sines, added up.
-#[derive(Drop)]
+#[derive(Clone, Copy)]
 pub struct RowSums {
     pub cosines: i64,
     pub sines: i64,

@@ -1,4 +1,7 @@
 // The sine and the cosine of a phase, a turn being 2^32, in units of 2^-30 (01, "Phase, sine and cosine").
+
+#![tactic(auto)]
+
 ghost use Rattle.std.specs.Prelude.{◌≡◌, ◌+◌, ◌*◌, ◌/◌, ◌^◌, ◌≤◌};
 ghost use Rattle.wave.specs.Wave.{angle, square, step, steps, sine_divisors, cosine_divisors, sin, cos};
 
@@ -6,7 +9,7 @@ ghost use Rattle.wave.specs.Wave.{angle, square, step, steps, sine_divisors, cos
 const EIGHTH: u32 = 536870912;
 
 // The sine and the cosine of one phase.
-#[derive(Drop)]
+#[derive(Clone, Copy)]
 pub struct Wave {
     pub sine: i64,
     pub cosine: i64,

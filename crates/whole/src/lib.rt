@@ -1,4 +1,7 @@
 // Whole numbers: the one rounding, and the laws of signed sums that everything above cites.
+
+#![tactic(auto)]
+
 ghost use Rattle.std.specs.Prelude.{◌≡◌, ◌+◌, ◌*◌, ◌/◌, ◌^◌, ◌≤◌, ◌<◌, nat_abs, ◌+ℤ◌, ◌*ℤ◌};
 ghost use Rattle.whole.specs.Nearest.{nearest};
 

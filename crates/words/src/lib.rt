@@ -1,4 +1,7 @@
 // Numbers of one, two and four bytes, little-endian, unsigned or in two's complement, read from any bytes.
+
+#![tactic(auto)]
+
 ghost use Rattle.std.specs.Prelude.{◌≡◌, ◌+◌, ◌^◌, ◌≤◌, ◌<◌, nat_abs, length};
 ghost use Rattle.words.specs.Words.{byte_at, half_at, word_at, twos_complement};
 
