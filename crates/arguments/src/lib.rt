@@ -66,6 +66,7 @@ pub fn phase_of(m: Multipliers, b: Phases) -> u32
 }
 
 // A line's multiplier of an argument.
+#[tactic(auto, unfolding(crate::specs::Phase::multiplier_of))]
 pub fn multiplier_of(m: Multipliers, argument: Argument) -> i32
     ensures { result ≡ multiplier_of m argument }
 {
@@ -87,6 +88,7 @@ fn moved_by(phase: u32, amount: i32) -> u32
 }
 
 // The phases with one of them moved.
+#[tactic(auto, unfolding(crate::specs::Phase::moved_phases))]
 pub fn moved_phases(b: Phases, argument: Argument, amount: i32) -> Phases
     ensures { result ≡ moved_phases b argument amount }
 {

@@ -7,6 +7,6 @@ use Rattle.arguments.proofs.moved_by.Goals as goal
 pub returns : goal.returns
 unfolding moved_by
 returns c =
-    c.wrapping_add_u32.ensures
+    c.wrapping_add_u32.ensures.value
     ∙ ap₂ (λ (x y : ℕ). (x + y) % 2 ^ 32) (modulo_below (2 ^ 32) (omega arith) c.args.phase c.ranges.phase.fits) (rw (to_z-of_z c.ranges.amount) at c.wrapped.ensures)
     ∙ modulo_sum (2 ^ 32) (omega arith) (pos c.args.phase) c.args.amount

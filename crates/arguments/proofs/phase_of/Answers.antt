@@ -1,5 +1,5 @@
 -- Each wrapping add is the sum modulo a turn, and a sum's parts may be reduced before it is taken.
-use Rattle.std.proofs.Common.{◌≡◌, ℕ, ◌+◌, ◌%◌, ◌^◌, ◌<◌, ℤ, pos, ◌+ℤ◌, ◌*ℤ◌, arith, w32, to_z, of_z}
+use Rattle.std.proofs.Common.{rules, ◌≡◌, ℕ, ◌+◌, ◌%◌, ◌^◌, ◌<◌, ℤ, pos, ◌+ℤ◌, ◌*ℤ◌, arith, w32, to_z, of_z}
 use lib.Signed.{mag}
 use Rattle.whole.proofs.Machine.{back}
 use Rattle.arguments.specs.Phase.{modulo, phase}
@@ -18,14 +18,11 @@ more r s m a y k h e f g = rw (g, e, alone m a k h f) (modulo_sum (2 ^ 32) (omeg
 pub returns : goal.returns
 unfolding phase
 returns c =
-    let c₂ = c.before.before.before in
-    let c₁ = c₂.before.before.before in
-    let m = c₁.args.m in
-    let b = c₁.args.b in
-    let fit = c₁.struct_told.given in
-    let s₁ = alone _ b.tau m.tau fit.0.1 c₁.multiple-sum.ensures in
-    let s₂ = more _ _ _ b.s _ m.s fit.1.0.1 s₁ c₂.multiple.ensures c₂.wrapping_add_u32-sum.ensures in
-    let s₃ = more _ _ _ b.h _ m.h fit.1.1.0.1 s₂ c.multiple-2.ensures c.wrapping_add_u32-sum-2.ensures in
-    let s₄ = more _ _ _ b.p _ m.p fit.1.1.1.0.1 s₃ c.multiple-3.ensures c.wrapping_add_u32-sum-3.ensures in
-    let s₅ = more _ _ _ b.np _ m.np fit.1.1.1.1.0.1 s₄ c.multiple-4.ensures c.wrapping_add_u32-sum-4.ensures in
-    more _ _ _ b.ps _ m.ps fit.1.1.1.1.1.0.1 s₅ c.multiple-5.ensures c.wrapping_add_u32.ensures
+    let m = c.args.m in
+    let b = c.args.b in
+    let s₁ = alone _ b.tau m.tau (search rules) c.multiple-sum.ensures in
+    let s₂ = more _ _ _ b.s _ m.s (search rules) s₁ c.multiple.ensures c.wrapping_add_u32-sum.ensures.value in
+    let s₃ = more _ _ _ b.h _ m.h (search rules) s₂ c.multiple-2.ensures c.wrapping_add_u32-sum-2.ensures.value in
+    let s₄ = more _ _ _ b.p _ m.p (search rules) s₃ c.multiple-3.ensures c.wrapping_add_u32-sum-3.ensures.value in
+    let s₅ = more _ _ _ b.np _ m.np (search rules) s₄ c.multiple-4.ensures c.wrapping_add_u32-sum-4.ensures.value in
+    more _ _ _ b.ps _ m.ps (search rules) s₅ c.multiple-5.ensures c.wrapping_add_u32.ensures.value
