@@ -1,6 +1,5 @@
 -- The fold is the definition's, S(a) and C(a) are worked out once, and in each eighth the sine and the cosine are one of the two with a sign.
 use borrow.Author.Tests.{eq-eqb, ne_eqb}
-use mathlib.Core.Logic.{inl, inr}
 use mathlib.Core.Path.{◌≡◌}
 use Prim.Native.Nat.{ℕ, ◌+◌, ◌/◌, ◌%◌, ◌^◌, ◌≤◌, ◌<◌}
 use native.Mathlib.Omega.{arith}
@@ -12,7 +11,7 @@ use Rattle.whole.proofs.Machine.{minus_fits, minus_read}
 use Rattle.wave.specs.Wave.{folded, part, signed, sin, cos}
 use Rattle.wave.proofs.Turn.{sine_in, in_eighth}
 use Rattle.wave.proofs.wave_of.Goals as goal
-use Rattle.wave.proofs.wave_of.Goals.{After-eighth_cosine_of-c, In-7-to-4294967295, Joined-e-eq0}
+use Rattle.wave.proofs.wave_of.Goals.{After-eighth_cosine_of-c, Joined-e-eq0, then-e-eq0, else-e-eq0}
 
 -- a = b for even e, 2^29 - b for odd e
 fold : (c : Joined-e-eq0) → let t = c.args.phase in c.if-e-eq0.a ≡ folded (t / 2 ^ 29) (t % 2 ^ 29)
@@ -20,8 +19,8 @@ unfolding folded
 fold c =
     let e = c.args.phase / 2 ^ 29 in
     elim c.if-e-eq0.branch [
-      | inl even ↦ rw (eq-eqb (e % 2) 0 even.0.true) even.1
-      | inr odd ↦ rw (ne_eqb (e % 2) 0 odd.0.left) odd.1
+      | then-e-eq0 w ↦ rw (eq-eqb (e % 2) 0 w.if-e-eq0.true) w.a-is
+      | else-e-eq0 w ↦ rw (ne_eqb (e % 2) 0 w.if-e-eq0.false) w.a-is
     ]
 
 -- S(a) or C(a), with either sign
@@ -50,7 +49,7 @@ module _ (c : After-eighth_cosine_of-c) where
   eighth : {e : ℕ} → t / 2 ^ 29 ≡ e → {u u' v v' : ℤ} → (u ≡ u') × (v ≡ v') → u' ≡ sine_in e S C → v' ≡ sine_in ((e + 2) % 8) S C → (u ≡ sin t) × (v ≡ cos t)
   eighth =
       in_eighth t (omega arith)
-      (fold c)
+      (fold c.before.before.before.before)
       c.angle_of-x.ensures.0
       c.square_of-y.ensures.0
       c.eighth_sine_of-s.ensures.0
@@ -62,47 +61,34 @@ module _ (c : After-eighth_cosine_of-c) where
   C-small : C ≤ 2 ^ 30
   C-small = c.eighth_cosine_of-c.ensures.1
 
--- of eight numbers the one that is none of the first seven
-upper : (e : ℕ) → (e ≡ 0 → ⊥) → (e ≡ 1 → ⊥) → (e ≡ 2 → ⊥) → (e ≡ 3 → ⊥) → 4 ≤ e
-upper e h₀ h₁ h₂ h₃ = omega arith
-
-last : (e : ℕ) → e < 8 → 4 ≤ e → (e ≡ 4 → ⊥) → (e ≡ 5 → ⊥) → (e ≡ 6 → ⊥) → e ≡ 7
-last e h l h₄ h₅ h₆ = omega arith
-
-seven : (c : In-7-to-4294967295) → t c.before / 2 ^ 29 ≡ 7
-seven c =
-    let e = t c.before / 2 ^ 29 in
-    let low = c.in-7-to-4294967295.rest.0.0.0 in
-    last e (omega arith) (upper e low.0.0.0.1 low.0.0.1 low.0.1 low.1) c.in-7-to-4294967295.rest.0.0.1 c.in-7-to-4294967295.rest.0.1 c.in-7-to-4294967295.rest.1
-
 pub returns-in-0 : goal.returns-in-0
 unfolding signed part
-returns-in-0 c = eighth (goal.at.returns-in-0 c).After-eighth_cosine_of-c c.in-7-to-4294967295.keys1 c.sine_cosine.ensures (plus (S-small (goal.at.returns-in-0 c).After-eighth_cosine_of-c)) (plus (C-small (goal.at.returns-in-0 c).After-eighth_cosine_of-c))
+returns-in-0 c = let h = (goal.at.returns-in-0 c).After-eighth_cosine_of-c in eighth h c.in-0.is c.sine_cosine.ensures (plus (S-small h)) (plus (C-small h))
 
 pub returns-in-1 : goal.returns-in-1
 unfolding signed part
-returns-in-1 c = eighth (goal.at.returns-in-1 c).After-eighth_cosine_of-c c.in-7-to-4294967295.keys2 c.sine_cosine-in-1.ensures (plus (C-small (goal.at.returns-in-1 c).After-eighth_cosine_of-c)) (plus (S-small (goal.at.returns-in-1 c).After-eighth_cosine_of-c))
+returns-in-1 c = let h = (goal.at.returns-in-1 c).After-eighth_cosine_of-c in eighth h c.in-1.is c.sine_cosine-in-1.ensures (plus (C-small h)) (plus (S-small h))
 
 pub returns-in-2 : goal.returns-in-2
 unfolding signed part
-returns-in-2 c = eighth (goal.at.returns-in-2 c).After-eighth_cosine_of-c c.in-7-to-4294967295.keys3 c.sine_cosine-in-2.ensures (plus (C-small (goal.at.returns-in-2 c).After-eighth_cosine_of-c)) (minus (S-small (goal.at.returns-in-2 c).After-eighth_cosine_of-c))
+returns-in-2 c = let h = (goal.at.returns-in-2 c).After-eighth_cosine_of-c in eighth h c.in-2.is c.sine_cosine-in-2.ensures (plus (C-small h)) (minus (S-small h))
 
 pub returns-in-3 : goal.returns-in-3
 unfolding signed part
-returns-in-3 c = eighth (goal.at.returns-in-3 c).After-eighth_cosine_of-c c.in-7-to-4294967295.keys4 c.sine_cosine-in-3.ensures (plus (S-small (goal.at.returns-in-3 c).After-eighth_cosine_of-c)) (minus (C-small (goal.at.returns-in-3 c).After-eighth_cosine_of-c))
+returns-in-3 c = let h = (goal.at.returns-in-3 c).After-eighth_cosine_of-c in eighth h c.in-3.is c.sine_cosine-in-3.ensures (plus (S-small h)) (minus (C-small h))
 
 pub returns-in-4 : goal.returns-in-4
 unfolding signed part
-returns-in-4 c = eighth (goal.at.returns-in-4 c).After-eighth_cosine_of-c c.in-7-to-4294967295.keys5 c.sine_cosine-in-4.ensures (minus (S-small (goal.at.returns-in-4 c).After-eighth_cosine_of-c)) (minus (C-small (goal.at.returns-in-4 c).After-eighth_cosine_of-c))
+returns-in-4 c = let h = (goal.at.returns-in-4 c).After-eighth_cosine_of-c in eighth h c.in-4.is c.sine_cosine-in-4.ensures (minus (S-small h)) (minus (C-small h))
 
 pub returns-in-5 : goal.returns-in-5
 unfolding signed part
-returns-in-5 c = eighth (goal.at.returns-in-5 c).After-eighth_cosine_of-c c.in-7-to-4294967295.keys6 c.sine_cosine-in-5.ensures (minus (C-small (goal.at.returns-in-5 c).After-eighth_cosine_of-c)) (minus (S-small (goal.at.returns-in-5 c).After-eighth_cosine_of-c))
+returns-in-5 c = let h = (goal.at.returns-in-5 c).After-eighth_cosine_of-c in eighth h c.in-5.is c.sine_cosine-in-5.ensures (minus (C-small h)) (minus (S-small h))
 
 pub returns-in-6 : goal.returns-in-6
 unfolding signed part
-returns-in-6 c = eighth (goal.at.returns-in-6 c).After-eighth_cosine_of-c c.in-7-to-4294967295.keys7 c.sine_cosine-in-6.ensures (minus (C-small (goal.at.returns-in-6 c).After-eighth_cosine_of-c)) (plus (S-small (goal.at.returns-in-6 c).After-eighth_cosine_of-c))
+returns-in-6 c = let h = (goal.at.returns-in-6 c).After-eighth_cosine_of-c in eighth h c.in-6.is c.sine_cosine-in-6.ensures (minus (C-small h)) (plus (S-small h))
 
 pub returns-in-7-to-4294967295 : goal.returns-in-7-to-4294967295
 unfolding signed part
-returns-in-7-to-4294967295 c = eighth (goal.at.returns-in-7-to-4294967295 c).After-eighth_cosine_of-c (seven (goal.at.returns-in-7-to-4294967295 c).In-7-to-4294967295) c.sine_cosine-in-7-to-4294967295.ensures (minus (S-small (goal.at.returns-in-7-to-4294967295 c).After-eighth_cosine_of-c)) (plus (C-small (goal.at.returns-in-7-to-4294967295 c).After-eighth_cosine_of-c))
+returns-in-7-to-4294967295 c = let h = (goal.at.returns-in-7-to-4294967295 c).After-eighth_cosine_of-c in let seven : c.args.phase / 2 ^ 29 ≡ 7 = omega arith in eighth h seven c.sine_cosine-in-7-to-4294967295.ensures (minus (S-small h)) (plus (C-small h))
