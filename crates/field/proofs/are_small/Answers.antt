@@ -1,0 +1,22 @@
+-- Where all bits together are below 2^61, so is each raised entry, and it is in range.
+use Rattle.std.proofs.Common.{ℕ, ◌+◌, ◌^◌, ◌<◌, ◌≤◌, List, get_or, ℤ, pos, nat_abs, sym, subst, ⊎_elim, eq-or-lt_of_le, arith, w64, ltb-true}
+use lib.Bits.{bit_or}
+use Rattle.whole.proofs.Bits.{below_or}
+use Rattle.whole.proofs.Machine.{back}
+use Rattle.field.proofs.Entries.{every_small}
+use Rattle.field.proofs.are_small.Goals as goal
+
+-- one entry more, whose raised bits are w
+grown : (l : List ℤ) (i any w : ℕ) → (any < 2 ^ 61 → (k : ℕ) → k < i → nat_abs (get_or l k (pos 0)) ≤ 2 ^ 60) → (w < 2 ^ 61 → nat_abs (get_or l i (pos 0)) ≤ 2 ^ 60)
+    → bit_or any w < 2 ^ 61 → (k : ℕ) → k < i + 1 → nat_abs (get_or l k (pos 0)) ≤ 2 ^ 60
+grown l i any w before this h k b =
+    let both = below_or any w h in
+    let m : k ≤ i = omega arith in
+    ⊎_elim (λ q. subst (λ (j : ℕ). nat_abs (get_or l j (pos 0)) ≤ 2 ^ 60) (sym q) (this both.1)) (λ s. before both.0 k s) (eq-or-lt_of_le m)
+
+pub loop-i-preserved : goal.loop-i-preserved
+loop-i-preserved c =
+    (omega arith, grown c.args.list.now c.loop-i.i c.loop-i.any c.wrapping_add_u64-any.result c.loop-i.invariant.1 (λ h. subst (λ (z : ℤ). nat_abs z ≤ 2 ^ 60) (back w64 (get_or c.args.list.now c.loop-i.i (pos 0)) c.bits-of-arg.given) (c.bits_of.ensures (subst (λ (w : ℕ). w < 2 ^ 61) c.wrapping_add_u64-any.ensures h))))
+
+pub returns : goal.returns
+returns c e = every_small _ (λ k b. c.loop-i.invariant.1 (ltb-true _ _ e) k (omega (arith, c.loop-i-test.false)))
