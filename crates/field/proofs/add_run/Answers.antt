@@ -39,8 +39,9 @@ loop-k-init c = (omega arith, sym (added_none _ _ _))
 
 pub correct-requires : goal.correct-requires
 correct-requires c =
-    (there (goal.at.correct-requires c).In-loop-k, (in-range (goal.at.correct-requires c).In-loop-k, rw (by-is (goal.at.correct-requires c).In-loop-k) (c.requires.small.each c.loop-k.k)))
+    let h = (goal.at.correct-requires c).In-loop-k in
+    record { at_in_bounds = there h; pos_bound = in-range h; by_bound = rw (by-is h) (c.requires.small.each c.loop-k.k) }
 
 pub loop-k-preserved : goal.loop-k-preserved
 loop-k-preserved c =
-    (omega arith, running_next (places (goal.at.loop-k-preserved c).In-loop-k) (corrections (goal.at.loop-k-preserved c).In-loop-k) c.args.list.now c.loop-k.k (list (goal.at.loop-k-preserved c).In-loop-k) c.loop-k.invariant.1 c.correct.new.0 _ c.correct.ensures (by-is (goal.at.loop-k-preserved c).In-loop-k))
+    (omega arith, running_next (places (goal.at.loop-k-preserved c).In-loop-k) (corrections (goal.at.loop-k-preserved c).In-loop-k) c.args.list.now c.loop-k.k (list (goal.at.loop-k-preserved c).In-loop-k) c.loop-k.invariant.1 c.correct.new.list _ c.correct.ensures (by-is (goal.at.loop-k-preserved c).In-loop-k))

@@ -1,5 +1,5 @@
 -- Where all bits together are below 2^61, so is each raised entry, and it is in range.
-use Rattle.std.proofs.Common.{ℕ, ◌+◌, ◌^◌, ◌<◌, ◌≤◌, List, get_or, ℤ, pos, nat_abs, sym, subst, ⊎_elim, eq-or-lt_of_le, arith, w64, ltb-true}
+use Rattle.std.proofs.Common.{rules, ℕ, ◌+◌, ◌^◌, ◌<◌, ◌≤◌, List, get_or, ℤ, pos, nat_abs, sym, subst, ⊎_elim, eq-or-lt_of_le, arith, w64, ltb-true}
 use lib.Bits.{bit_or}
 use Rattle.whole.proofs.Bits.{below_or}
 use Rattle.whole.proofs.Machine.{back}
@@ -16,7 +16,7 @@ grown l i any w before this h k b =
 
 pub loop-i-preserved : goal.loop-i-preserved
 loop-i-preserved c =
-    (omega arith, grown c.args.list.now c.loop-i.i c.loop-i.any c.wrapping_add_u64-any.result c.loop-i.invariant.1 (λ h. subst (λ (z : ℤ). nat_abs z ≤ 2 ^ 60) (back w64 (get_or c.args.list.now c.loop-i.i (pos 0)) c.bits-of-arg.given) (c.bits_of.ensures (subst (λ (w : ℕ). w < 2 ^ 61) c.wrapping_add_u64-any.ensures h))))
+    (omega arith, grown c.args.list.now c.loop-i.i c.loop-i.any c.wrapping_add_u64-any.result c.loop-i.invariant.1 (λ h. subst (λ (z : ℤ). nat_abs z ≤ 2 ^ 60) (back w64 (get_or c.args.list.now c.loop-i.i (pos 0)) (search rules)) (c.bits_of.ensures (subst (λ (w : ℕ). w < 2 ^ 61) c.wrapping_add_u64-any.ensures.value h))))
 
 pub returns : goal.returns
 returns c e = every_small _ (λ k b. c.loop-i.invariant.1 (ltb-true _ _ e) k (omega (arith, c.loop-i-test.false)))
