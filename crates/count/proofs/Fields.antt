@@ -1,7 +1,7 @@
 -- The count of the float that a sign, an exponent's field and the digits stand for.
 use mathlib.Core.Path.{◌≡◌, sym, ap, ◌∙◌, subst}
 use mathlib.Core.Bool.{Bool, true, false, not}
-use Prim.Native.Nat.{ℕ, zero, suc, ◌+◌, ◌-◌, ◌*◌, ◌/◌, ◌%◌, ◌^◌, ◌≤◌, ◌<◌}
+use Prim.Native.Nat.{ℕ, zero, suc, ◌+◌, ◌*◌, ◌/◌, ◌%◌, ◌^◌, ◌≤◌, ◌<◌}
 use native.Mathlib.Nat.{lt_of_mul-lt-mul_right, mul_comm, mul_right_comm, eq_of_mul-eq-mul_right, mul-lt-mul_of_pos_right, lt_of_lt_of_le, not-suc-le-zero, mod-lt}
 use native.Mathlib.Omega.{arith}
 use lib.IntN.{pos}
