@@ -25,7 +25,7 @@ FIRST = {
 
 
 def snake(word):
-    word = re.sub(r'(?<=[a-z0-9])(?=[A-Z])', '_', word)
+    word = re.sub(r'(?<=[a-z0-9])(?=[A-Z])|(?<=[A-Z])(?=[A-Z][a-z])', '_', word)
     return word.replace('-', '_').lower()
 
 

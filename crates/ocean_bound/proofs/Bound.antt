@@ -21,7 +21,7 @@ use Rattle.whole.specs.Sum.{sum_to, weight_to}
 use Rattle.whole.proofs.Running.{weight_size}
 use Rattle.whole.proofs.Sums.{sum_same}
 use Rattle.whole.proofs.Within.{Within, within_nearest}
-use Rattle.ocean_bound.specs.Exact.{exact_fcos, exact_fsin, parts_of_acount, exact_sum, AtMostNineCounts, CloseToExact, row_weight, factor_error, fitted_bound}
+use Rattle.ocean_bound.specs.Exact.{exact_fcos, exact_fsin, parts_of_a_count, exact_sum, AtMostNineCounts, CloseToExact, row_weight, factor_error, fitted_bound}
 
 -- ---- a tide's factors: half a unit of their own, and two for each admittance in ones
 own_error : (s : List ℕ) (k : ℕ) → 500000 * scale + row_weight s k * (2 * scale) ≡ factor_error s k * scale
@@ -72,8 +72,8 @@ module _ (s : List ℕ) (phases : Phases) (p q j : ℕ) where
 
   -- for any sheet, phases and frame, at every place
   pub within_fitted_bound : (frame : Frame)
-      → nat_abs (correction s frame (fcos s phases) (fsin s phases) p q j *ℤ pos parts_of_acount -ℤ exact_sum s phases frame p q j) ≤ fitted_bound s p q j
-  unfolding correction unless_skipped exact_sum fitted_bound parts_of_acount
+      → nat_abs (correction s frame (fcos s phases) (fsin s phases) p q j *ℤ pos parts_of_a_count -ℤ exact_sum s phases frame p q j) ≤ fitted_bound s p q j
+  unfolding correction unless_skipped exact_sum fitted_bound parts_of_a_count
   within_fitted_bound frame = by_test (skipped frame (degree s j))
     where
       sum : ℤ
@@ -103,8 +103,8 @@ module _ {s : List ℕ} (A : Accepted s) (p q j : ℕ) (gp : p < 4) (gq : q < 4)
       let row : 2 * row_weight s k + 500000 ≤ 8500000 = omega (arith, A.row k l) in
       mul-le-mul both (mul-le-mul_right scale row)
 
-  pub fitted_at_most_nine : fitted_bound s p q j ≤ 9 * parts_of_acount
-  unfolding fitted_bound parts_of_acount
+  pub fitted_at_most_nine : fitted_bound s p q j ≤ 9 * parts_of_a_count
+  unfolding fitted_bound parts_of_a_count
   fitted_at_most_nine =
       let tides : weight_to (λ k. pos ((nat_abs (coefficient s j k p) + nat_abs (coefficient s j k q)) * (factor_error s k * scale))) (tide_count s)
       ≤ tide_count s * (2 ^ 25 * (8500000 * scale)) =

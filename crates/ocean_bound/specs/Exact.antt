@@ -19,8 +19,8 @@ unfoldable pub exact_fsin : List ℕ → Phases → ℕ → ℤ
 exact_fsin s phases = line_sum s (λ f. exact_sin (line_phase s phases f))
 
 -- an exact sum has so many parts to a count
-unfoldable pub parts_of_acount : ℕ
-parts_of_acount = 2 ^ 30 * (10 ^ 6 * scale)
+unfoldable pub parts_of_a_count : ℕ
+parts_of_a_count = 2 ^ 30 * (10 ^ 6 * scale)
 
 -- the exact correction of place j by its cos and sin columns, zero at a skipped place
 unfoldable pub exact_sum : List ℕ → Phases → Frame → ℕ → ℕ → ℕ → ℤ
@@ -29,7 +29,7 @@ exact_sum s phases frame p q j = unless_skipped s frame j (place_sum s (exact_fc
 -- ---- nine counts
 -- a correction in counts is at most nine counts from a sum in those parts
 unfoldable pub AtMostNineCounts : ℤ → ℤ → Type 0
-AtMostNineCounts correction exact = nat_abs (correction *ℤ pos parts_of_acount -ℤ exact) ≤ 9 * parts_of_acount
+AtMostNineCounts correction exact = nat_abs (correction *ℤ pos parts_of_a_count -ℤ exact) ≤ 9 * parts_of_a_count
 
 -- so at every place of a sheet; and "with the centre-of-mass frame, degree 1 is skipped, its correction and its exact sum then being zero"
 pub record CloseToExact (sheet : List ℕ) (phases : Phases) (frame : Frame) : Type 0 where

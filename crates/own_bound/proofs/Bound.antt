@@ -15,14 +15,14 @@ use Rattle.own.specs.Own.{line_of, record_at, own_phase, records_refusal, own_su
 use Rattle.own.proofs.Records.{record_light}
 use Rattle.own.proofs.Table.{of_record, records_table}
 use Rattle.series.specs.Exact.{scale}
-use Rattle.step_two_bound.specs.Exact.{parts_of_acount, amplitudes, ByAmplitudes}
+use Rattle.step_two_bound.specs.Exact.{parts_of_a_count, amplitudes, ByAmplitudes}
 use Rattle.step_two_bound.proofs.Bound.{lines_close}
 use Rattle.wave.specs.Wave.{sin, cos}
 use Rattle.whole.proofs.Running.{weight_size}
 use Rattle.own_bound.specs.Exact.{WithinThreeCounts, exact_sum, CloseToExact}
 
 close : (total : ℕ) (d x : ℤ) → total ≤ 1280000000 → ByAmplitudes total d x → WithinThreeCounts d x
-unfolding WithinThreeCounts parts_of_acount ByAmplitudes
+unfolding WithinThreeCounts parts_of_a_count ByAmplitudes
 close total d x h e = omega (arith, mul-le-mul_right scale h)
 
 module _ (phases : Phases) (l : List OwnLine) (passed : records_refusal l ≡ 0) where

@@ -5,11 +5,11 @@ use Rattle.bands.specs.Bands.{Coefficient, C20, C21, S21, C22, S22}
 use Rattle.own.specs.declared.OwnLine.{OwnLine}
 use Rattle.own.specs.Own.{own_sum, own_corrections}
 use Rattle.series.specs.Exact.{exact_sin, exact_cos}
-use Rattle.step_two_bound.specs.Exact.{parts_of_acount}
+use Rattle.step_two_bound.specs.Exact.{parts_of_a_count}
 
 -- a correction in counts is at most three counts from a sum in parts of a count
 unfoldable pub WithinThreeCounts : ℤ → ℤ → Type 0
-WithinThreeCounts correction exact = nat_abs (correction *ℤ pos parts_of_acount -ℤ exact) ≤ 3 * parts_of_acount
+WithinThreeCounts correction exact = nat_abs (correction *ℤ pos parts_of_a_count -ℤ exact) ≤ 3 * parts_of_a_count
 
 -- the records' exact sums
 abbrev pub exact_sum : Phases → List OwnLine → Coefficient → ℤ

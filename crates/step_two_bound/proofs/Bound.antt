@@ -24,7 +24,7 @@ use Rattle.whole.proofs.Running.{weight_size}
 use Rattle.whole.proofs.Within.{within_nearest}
 use Rattle.step_two.specs.StepTwo.{corrections}
 use Rattle.step_two.proofs.Sizes.{selected_light}
-use Rattle.step_two_bound.specs.Exact.{parts_of_acount, LessThanOneCount, amplitudes, ByAmplitudes, LinesCloseToExact, CloseToExact}
+use Rattle.step_two_bound.specs.Exact.{parts_of_a_count, LessThanOneCount, amplitudes, ByAmplitudes, LinesCloseToExact, CloseToExact}
 
 -- what a coefficient takes of the lines is no more than they have
 taken_weight : (lines : ℕ → Line) (k : Coefficient) (n : ℕ)
@@ -35,7 +35,7 @@ taken_weight lines k (suc n) = omega (arith, taken_weight lines k n, taken_size 
 
 -- any lines, any number of them, any phases
 pub lines_close : (lines : ℕ → Line) (phase : ℕ → ℕ) (n : ℕ) → LinesCloseToExact lines phase n
-unfolding ByAmplitudes parts_of_acount correction_of sum_of term
+unfolding ByAmplitudes parts_of_a_count correction_of sum_of term
 lines_close lines phase n = record {
   each = λ k.
       let a : ℕ → ℤ = λ i. (taken k (lines i)).cosine in
@@ -53,14 +53,14 @@ some = lit< tt
 
 -- amplitudes of up to 2^27 counts in all leave less than one count
 close : (total : ℕ) (d x : ℤ) → total ≤ 2 ^ 27 → ByAmplitudes total d x → LessThanOneCount d x
-unfolding LessThanOneCount parts_of_acount ByAmplitudes
+unfolding LessThanOneCount parts_of_a_count ByAmplitudes
 close total d x h e = omega (arith, some, mul-le-mul_right scale h)
 
 -- one count off is too far
-pub one_count_off : (d : ℤ) → LessThanOneCount (d +ℤ pos 1) (d *ℤ pos parts_of_acount) → ⊥
+pub one_count_off : (d : ℤ) → LessThanOneCount (d +ℤ pos 1) (d *ℤ pos parts_of_a_count) → ⊥
 unfolding LessThanOneCount
 one_count_off d h =
-    let e = equal ((! 0 ⊕ # (pos 1)) ⊗ ! 1 ⊖ ! 0 ⊗ ! 1) (! 1) (d ∷ pos parts_of_acount ∷ []) (omega arith) in
+    let e = equal ((! 0 ⊕ # (pos 1)) ⊗ ! 1 ⊖ ! 0 ⊗ ! 1) (! 1) (d ∷ pos parts_of_a_count ∷ []) (omega arith) in
     omega (arith, h, ap nat_abs e)
 
 -- any 49 lines whose amplitudes are at most the largest of the table, whichever they are

@@ -11,12 +11,12 @@ use Rattle.whole.specs.Sum.{weight_to}
 use Rattle.step_two.specs.StepTwo.{selected_sum, corrections}
 
 -- an exact sum has so many parts to a count: its sines are in units of 2^-30, over `scale`
-unfoldable pub parts_of_acount : ℕ
-parts_of_acount = 2 ^ 30 * scale
+unfoldable pub parts_of_a_count : ℕ
+parts_of_a_count = 2 ^ 30 * scale
 
 -- a correction in counts is less than one count from a sum in those parts
 unfoldable pub LessThanOneCount : ℤ → ℤ → Type 0
-LessThanOneCount correction exact = nat_abs (correction *ℤ pos parts_of_acount -ℤ exact) < parts_of_acount
+LessThanOneCount correction exact = nat_abs (correction *ℤ pos parts_of_a_count -ℤ exact) < parts_of_a_count
 
 -- the amplitudes of the first n of given lines, added up without their signs
 unfoldable pub amplitudes : (ℕ → Line) → ℕ → ℕ
@@ -24,7 +24,7 @@ amplitudes lines n = weight_to (λ i. (lines i).ip) n + weight_to (λ i. (lines 
 
 -- a correction is at most half a count, and two units of 2^-30 for each count of the lines' amplitudes, from its exact sum
 unfoldable pub ByAmplitudes : ℕ → ℤ → ℤ → Type 0
-ByAmplitudes total correction exact = nat_abs (correction *ℤ pos parts_of_acount -ℤ exact) ≤ (2 ^ 29 + 2 * total) * scale
+ByAmplitudes total correction exact = nat_abs (correction *ℤ pos parts_of_a_count -ℤ exact) ≤ (2 ^ 29 + 2 * total) * scale
 
 -- so for any lines, any number of them and any phases
 pub record LinesCloseToExact (lines : ℕ → Line) (phase : ℕ → ℕ) (n : ℕ) : Type 0 where
