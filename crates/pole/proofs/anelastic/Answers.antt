@@ -8,10 +8,10 @@ use Rattle.whole.proofs.Held.{Held, room, held, times, plus, ready}
 use Rattle.whole.proofs.Machine.{back, read}
 use Rattle.whole.specs.Nearest.{nearest}
 use Rattle.pole.proofs.Offsets.{offset_held}
-use Rattle.pole.proofs.anelastic.Statement.{statement}
-use Rattle.pole.proofs.anelastic.Tie as tie
+use Rattle.pole.proofs.anelastic.Goals as goal
+use Rattle.pole.proofs.anelastic.Goals.{Start}
 
-module _ (c : tie.Start) where
+module _ (c : Start) where
   abbrev x : ℤ
   x = c.args.x
 
@@ -19,10 +19,10 @@ module _ (c : tie.Start) where
   y = c.args.y
 
   x-times : Held (pos 10000 *ℤ read x) (pos 10000 *ℤ x) (10 ^ 10)
-  x-times = times (offset_held x c.ranges.x c.requires.0) (pos 10000)
+  x-times = times (offset_held x c.ranges.x c.requires.x_value) (pos 10000)
 
   y-times : Held (pos 112 *ℤ read y) (pos 112 *ℤ y) (112 * 10 ^ 6)
-  y-times = times (offset_held y c.ranges.y c.requires.1) (pos 112)
+  y-times = times (offset_held y c.ranges.y c.requires.y_value) (pos 112)
 
   both : Held (read (pos 10000 *ℤ read x) +ℤ read (pos 112 *ℤ read y)) (pos 10000 *ℤ x +ℤ pos 112 *ℤ y) (10112 * 10 ^ 6)
   both = plus (held x-times (omega arith)) (held y-times (omega arith))
@@ -30,18 +30,13 @@ module _ (c : tie.Start) where
   product : Held (pos 1348 *ℤ read (read (pos 10000 *ℤ read x) +ℤ read (pos 112 *ℤ read y))) (pos 1348 *ℤ (pos 10000 *ℤ x +ℤ pos 112 *ℤ y)) (1348 * (10112 * 10 ^ 6))
   product = times (held both (omega arith)) (pos 1348)
 
-returns : tie.Need-returns
-returns c =
-    back w64 c.nearest-of.result c.nearest-of.type-inv ∙ c.nearest-of.ensures
-    ∙ ap (λ (z : ℤ). nearest z 10000000) (held (product c.before) (omega arith)).reads
+pub overflow_mul-x-2 : goal.overflow_mul-x-2
+overflow_mul-x-2 c = room (product (goal.at.overflow_mul-x-2 c).Start) (omega arith)
 
-pub anelastic-spec : {M : Type 1} → statement M
-anelastic-spec =
-    tie.close
-    (tie.spec
-    (λ c. room (x-times c) (omega arith))
-    (λ c. room (y-times c) (omega arith))
-    (λ c. room (both c) (omega arith))
-    (λ c. room (product c) (omega arith))
-    (λ c κs. ready (held (product c) (omega arith)) (omega arith) (omega arith))
-    returns)
+pub nearest_of-requires : goal.nearest_of-requires
+nearest_of-requires c = ready (held (product (goal.at.nearest_of-requires c).Start) (omega arith)) (omega arith) (omega arith)
+
+pub returns : goal.returns
+returns c =
+    back w64 c.nearest_of.result c.nearest_of.type_inv ∙ c.nearest_of.ensures
+    ∙ ap (λ (z : ℤ). nearest z 10000000) (held (product (goal.at.returns c).Start) (omega arith)).reads

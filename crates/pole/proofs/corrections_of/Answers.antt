@@ -1,5 +1,4 @@
 -- Minus an offset is an offset, and a sign before a product may stand at its factors.
-use borrow.Author.Rules.{rules}
 use mathlib.Core.Bool.{true}
 use mathlib.Core.List.{[], ◌∷◌}
 use mathlib.Core.Path.{◌≡◌, ap, ap₂, ◌∙◌}
@@ -15,8 +14,8 @@ use Rattle.whole.proofs.Machine.{back, read, minus_fits, minus_read}
 use Rattle.whole.proofs.Ring.{equal, !, #, ◌⊕◌, ◌⊖◌, ◌⊗◌, ⊝}
 use Rattle.pole.specs.Pole.{exact_c21, exact_s21, corrections}
 use Rattle.pole.proofs.Offsets.{x_offset, y_offset, offset_held, minus_offset}
-use Rattle.pole.proofs.corrections_of.Statement.{statement}
-use Rattle.pole.proofs.corrections_of.Tie as tie
+use Rattle.pole.proofs.corrections_of.Goals as goal
+use Rattle.pole.proofs.corrections_of.Goals.{Start}
 
 -- an offset as the machine holds it, and minus it
 module _ (z : ℤ) (fits : SFits w64 z) (offset : is_pole_offset z ≡ true) where
@@ -35,7 +34,7 @@ module _ (z : ℤ) (fits : SFits w64 z) (offset : is_pole_offset z ≡ true) whe
   minus-offset-read : is_pole_offset (read (pos 0 -ℤ read z)) ≡ true
   minus-offset-read = rw minus_is (minus_offset z offset)
 
-module _ (c : tie.Start) where
+module _ (c : Start) where
   abbrev xp : ℤ
   xp = c.args.xp
 
@@ -72,36 +71,43 @@ module _ (x y : ℤ) where
   second-anelastic =
       equal (# (pos 1348) ⊗ (# (pos 10000) ⊗ ! 1 ⊕ # (pos 112) ⊗ ⊝ (! 0))) (# (pos 1348) ⊗ (# (pos 10000) ⊗ ! 1 ⊖ # (pos 112) ⊗ ! 0)) (x ∷ y ∷ []) (omega arith)
 
-returns : tie.Need-returns
+pub overflow_sub-minus_xp : goal.overflow_sub-minus_xp
+overflow_sub-minus_xp c = minus-room c.args.xp c.ranges.xp (x-is (goal.at.overflow_sub-minus_xp c).Start)
+
+pub overflow_sub-minus_yp : goal.overflow_sub-minus_yp
+overflow_sub-minus_yp c = minus-room c.args.yp c.ranges.yp (y-is (goal.at.overflow_sub-minus_yp c).Start)
+
+pub elastic-requires : goal.elastic-requires
+elastic-requires c = search (offsets (goal.at.elastic-requires c).Start)
+
+pub elastic-requires-in-Elastic : goal.elastic-requires-in-Elastic
+elastic-requires-in-Elastic c = search (offsets (goal.at.elastic-requires-in-Elastic c).Start)
+
+pub anelastic-requires : goal.anelastic-requires
+anelastic-requires c =
+    let o = offsets (goal.at.anelastic-requires c).Start in
+    record { x_value = search o; y_value = search o }
+
+pub anelastic-requires-in-Anelastic : goal.anelastic-requires-in-Anelastic
+anelastic-requires-in-Anelastic c =
+    let o = offsets (goal.at.anelastic-requires-in-Anelastic c).Start in
+    record { x_value = search o; y_value = search o }
+
+pub returns-in-Elastic : goal.returns-in-Elastic
 unfolding corrections exact_c21 exact_s21
-returns c =
-    let e = c.before in
-    let s = e.before.before.before in
+returns-in-Elastic c =
     let by : ℤ → ℤ = λ z. nearest (pos 1290 *ℤ z) 1000 in
-    rw e.before.enum_told.given.1 λ i. record {
-      c21 = (back w64 e.elastic.result e.elastic.type-inv ∙ e.elastic.ensures ∙ ap by (minus-x s) ∙ ap (λ (z : ℤ). nearest z 1000) (first-elastic (xp s) (yp s))) i;
-      s21 = (back w64 c.elastic2.result c.elastic2.type-inv ∙ c.elastic2.ensures ∙ ap by (to_z-of_z s.ranges.yp)) i;
+    rw c.in-Elastic.is λ i. record {
+      c21 = (back w64 c.elastic.result c.elastic.type_inv ∙ c.elastic.ensures ∙ ap by (minus-x (goal.at.returns-in-Elastic c).Start) ∙ ap (λ (z : ℤ). nearest z 1000) (first-elastic (xp (goal.at.returns-in-Elastic c).Start) (yp (goal.at.returns-in-Elastic c).Start))) i;
+      s21 = (back w64 c.elastic-in-Elastic.result c.elastic-in-Elastic.type_inv ∙ c.elastic-in-Elastic.ensures ∙ ap by (to_z-of_z c.ranges.yp)) i;
     }
 
-returns-2 : tie.Need-returns-2
+pub returns-in-Anelastic : goal.returns-in-Anelastic
 unfolding corrections exact_c21 exact_s21
-returns-2 c =
-    let e = c.before in
-    let s = e.before.before.before in
+returns-in-Anelastic c =
     let by : ℤ → ℤ → ℤ = λ x y. nearest (pos 1348 *ℤ (pos 10000 *ℤ x +ℤ pos 112 *ℤ y)) (10 ^ 7) in
     let over : ℤ → ℤ = λ z. nearest z (10 ^ 7) in
-    rw e.before.enum-told2.given.1 λ i. record {
-      c21 = (back w64 e.anelastic.result e.anelastic.type-inv ∙ e.anelastic.ensures ∙ ap₂ by (minus-x s) (minus-y s) ∙ ap over (first-anelastic (xp s) (yp s))) i;
-      s21 = (back w64 c.anelastic2.result c.anelastic2.type-inv ∙ c.anelastic2.ensures ∙ ap₂ by (to_z-of_z s.ranges.yp) (minus-x s) ∙ ap over (second-anelastic (xp s) (yp s))) i;
+    rw c.in-Anelastic.is λ i. record {
+      c21 = (back w64 c.anelastic.result c.anelastic.type_inv ∙ c.anelastic.ensures ∙ ap₂ by (minus-x (goal.at.returns-in-Anelastic c).Start) (minus-y (goal.at.returns-in-Anelastic c).Start) ∙ ap over (first-anelastic (xp (goal.at.returns-in-Anelastic c).Start) (yp (goal.at.returns-in-Anelastic c).Start))) i;
+      s21 = (back w64 c.anelastic-in-Anelastic.result c.anelastic-in-Anelastic.type_inv ∙ c.anelastic-in-Anelastic.ensures ∙ ap₂ by (to_z-of_z c.ranges.yp) (minus-x (goal.at.returns-in-Anelastic c).Start) ∙ ap over (second-anelastic (xp (goal.at.returns-in-Anelastic c).Start) (yp (goal.at.returns-in-Anelastic c).Start))) i;
     }
-
-pub corrections-of-spec : {M : Type 1} → statement M
-corrections-of-spec =
-    tie.close
-    (tie.spec
-    (λ c. minus-room (xp c) c.ranges.xp (x-is c)) (λ c. minus-room (yp c) c.ranges.yp (y-is c))
-    (λ c. search rules)
-    (λ c κs. search (offsets c.before.before)) (λ c κs. search (offsets c.before.before.before))
-    (λ c. search rules)
-    (λ c κs. search (offsets c.before.before)) (λ c κs. search (offsets c.before.before.before))
-    returns returns-2)
