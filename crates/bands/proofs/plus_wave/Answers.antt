@@ -9,14 +9,14 @@ use mir.Val.{SFits}
 use mir.Facts.{to_z-of_z}
 use Rattle.whole.proofs.Parts.{fits_abs, abs_sum, abs_product}
 use Rattle.whole.proofs.Machine.{sum_fits}
-use Rattle.bands.proofs.plus_wave.Statement.{statement}
-use Rattle.bands.proofs.plus_wave.Tie as tie
+use Rattle.bands.proofs.plus_wave.Goals as goal
+use Rattle.bands.proofs.plus_wave.Goals.{Start}
 
 -- an amplitude times a wave
 product-size : (a w : ℤ) → nat_abs a ≤ 2 ^ 24 → nat_abs w ≤ 2 ^ 31 → nat_abs (a *ℤ w) ≤ 2 ^ 55
 product-size a w h k = omega (arith, abs_product a w, mul-le-mul h k)
 
-module _ (c : tie.Start) where
+module _ (c : Start) where
   abbrev first : ℤ
   first = c.args.a *ℤ c.args.cosine
 
@@ -41,26 +41,17 @@ module _ (c : tie.Start) where
   all_fit : SFits w64 (c.args.sum +ℤ (first +ℤ second))
   all_fit = sum_fits w64 c.args.sum (first +ℤ second) (omega (arith, first-size, second-size, abs_sum first second, c.requires.sum-small))
 
-mul-result : tie.Need-overflow-mul-result
-mul-result c = rw (to_z-of_z c.ranges.a, to_z-of_z c.ranges.cosine) (first_fits c)
+pub overflow_add-result : goal.overflow_add-result
+overflow_add-result c =
+    rw (to_z-of_z c.ranges.a, to_z-of_z c.ranges.cosine, to_z-of_z c.ranges.b, to_z-of_z c.ranges.sine, to_z-of_z (first_fits (goal.at.overflow_add-result c).Start), to_z-of_z (second_fits (goal.at.overflow_add-result c).Start))
+    (both-fit (goal.at.overflow_add-result c).Start)
 
-mul-result-2 : tie.Need-overflow-mul-result-2
-mul-result-2 c = rw (to_z-of_z c.ranges.b, to_z-of_z c.ranges.sine) (second_fits c)
-
-add-result : tie.Need-overflow-add-result
-add-result c =
-    rw (to_z-of_z c.ranges.a, to_z-of_z c.ranges.cosine, to_z-of_z c.ranges.b, to_z-of_z c.ranges.sine, to_z-of_z (first_fits c), to_z-of_z (second_fits c))
-    (both-fit c)
-
-returns : tie.Need-returns
+pub returns : goal.returns
 returns c =
-    rw (to_z-of_z c.ranges.sum, to_z-of_z c.ranges.a, to_z-of_z c.ranges.cosine, to_z-of_z c.ranges.b, to_z-of_z c.ranges.sine, to_z-of_z (first_fits c), to_z-of_z (second_fits c), to_z-of_z (both-fit c), to_z-of_z (all_fit c))
+    rw (to_z-of_z c.ranges.sum, to_z-of_z c.ranges.a, to_z-of_z c.ranges.cosine, to_z-of_z c.ranges.b, to_z-of_z c.ranges.sine, to_z-of_z (first_fits (goal.at.returns c).Start), to_z-of_z (second_fits (goal.at.returns c).Start), to_z-of_z (both-fit (goal.at.returns c).Start), to_z-of_z (all_fit (goal.at.returns c).Start))
     refl
 
-add-result-2 : tie.Need-overflow-add-result-2
-add-result-2 c =
-    rw (to_z-of_z c.ranges.sum, to_z-of_z c.ranges.a, to_z-of_z c.ranges.cosine, to_z-of_z c.ranges.b, to_z-of_z c.ranges.sine, to_z-of_z (first_fits c), to_z-of_z (second_fits c), to_z-of_z (both-fit c))
-    (all_fit c)
-
-pub plus-wave-spec : {M : Type 1} → statement M
-plus-wave-spec = tie.close (tie.spec mul-result mul-result-2 add-result add-result-2 returns)
+pub overflow_add-result-2 : goal.overflow_add-result-2
+overflow_add-result-2 c =
+    rw (to_z-of_z c.ranges.sum, to_z-of_z c.ranges.a, to_z-of_z c.ranges.cosine, to_z-of_z c.ranges.b, to_z-of_z c.ranges.sine, to_z-of_z (first_fits (goal.at.overflow_add-result-2 c).Start), to_z-of_z (second_fits (goal.at.overflow_add-result-2 c).Start), to_z-of_z (both-fit (goal.at.overflow_add-result-2 c).Start))
+    (all_fit (goal.at.overflow_add-result-2 c).Start)
