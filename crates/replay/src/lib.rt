@@ -4,10 +4,33 @@
 #![tactic(auto)]
 
 ghost use Rattle.std.specs.Prelude.{◌≡◌, ◌≤◌, ◌<◌, length, take};
-ghost use Rattle.io.specs.Counts.{IsPrefixLen};
 
 use arguments::Phases;
-use libc::{STDIN_FILENO, STDOUT_FILENO};
+use std::io::{LockedStdin, Print, Read};
+
+// Reads until the bytes are full, the input ends or a read fails. Answered: how many were read.
+pub fn read_full(input: &mut LockedStdin, bytes: &mut [u8]) -> usize
+    ensures { (result ≤ length bytes.new) × (result ≡ length (take result bytes.new)) }
+{
+    let mut done = 0;
+    while done < bytes.len() {
+        let read = input.read(&mut bytes[done..]).unwrap_or(0);
+        if read == 0 {
+            break;
+        }
+        done += read;
+    }
+    done
+}
+
+// Whether all was written. What reads the output tells of what is missing there.
+fn write_all(rt: &HostRuntime, bytes: &[u8]) -> bool {
+    rt.write_all(bytes).is_ok()
+}
+
+fn print_decimal(rt: &HostRuntime, n: u64) -> bool {
+    rt.print(n).is_ok()
+}
 
 fn wide(b: u8) -> u32
     ensures { result < 256 }
@@ -15,21 +38,21 @@ fn wide(b: u8) -> u32
     b as u32
 }
 
-pub fn read_u8() -> u8 {
+pub fn read_u8(input: &mut LockedStdin) -> u8 {
     let mut b = [0u8; 1];
-    io::read_full(STDIN_FILENO, &mut b);
+    read_full(input, &mut b);
     b[0]
 }
 
-pub fn read_u32() -> u32 {
+pub fn read_u32(input: &mut LockedStdin) -> u32 {
     let mut b = [0u8; 4];
-    io::read_full(STDIN_FILENO, &mut b);
+    read_full(input, &mut b);
     wide(b[0]) + 256 * wide(b[1]) + 65536 * wide(b[2]) + 16777216 * wide(b[3])
 }
 
-pub fn read_u64() -> u64 {
-    let low = read_u32();
-    let high = read_u32();
+pub fn read_u64(input: &mut LockedStdin) -> u64 {
+    let low = read_u32(input);
+    let high = read_u32(input);
     low as u64 + 4294967296 * (high as u64)
 }
 
@@ -50,12 +73,12 @@ fn signed_64(v: u64) -> i64 {
     }
 }
 
-pub fn read_i32() -> i32 {
-    signed_32(read_u32())
+pub fn read_i32(input: &mut LockedStdin) -> i32 {
+    signed_32(read_u32(input))
 }
 
-pub fn read_i64() -> i64 {
-    signed_64(read_u64())
+pub fn read_i64(input: &mut LockedStdin) -> i64 {
+    signed_64(read_u64(input))
 }
 
 // The float with the bits b. A NaN's pattern, of which no float may be made, gives the NaN of 0 / 0.
@@ -69,17 +92,17 @@ fn float_of(b: u64) -> f64 {
     0.0 / 0.0
 }
 
-pub fn read_f64() -> f64 {
-    float_of(read_u64())
+pub fn read_f64(input: &mut LockedStdin) -> f64 {
+    float_of(read_u64(input))
 }
 
-pub fn read_phases() -> Phases {
-    let tau = read_u32();
-    let s = read_u32();
-    let h = read_u32();
-    let p = read_u32();
-    let np = read_u32();
-    let ps = read_u32();
+pub fn read_phases(input: &mut LockedStdin) -> Phases {
+    let tau = read_u32(input);
+    let s = read_u32(input);
+    let h = read_u32(input);
+    let p = read_u32(input);
+    let np = read_u32(input);
+    let ps = read_u32(input);
     Phases {
         tau,
         s,
@@ -91,10 +114,10 @@ pub fn read_phases() -> Phases {
 }
 
 // How many entries of a list there are, of those that it has room for.
-pub fn read_count(list: &[i64]) -> usize
+pub fn read_count(input: &mut LockedStdin, list: &[i64]) -> usize
     ensures { (result ≤ length list.now) × (result ≡ length (take result list.now)) }
 {
-    least(read_u32() as usize, list.len())
+    least(read_u32(input) as usize, list.len())
 }
 
 fn least(a: usize, b: usize) -> usize
@@ -104,52 +127,52 @@ fn least(a: usize, b: usize) -> usize
 }
 
 // Every entry of a list.
-pub fn read_entries(list: &mut [i64]) {
+pub fn read_entries(input: &mut LockedStdin, list: &mut [i64]) {
     let mut i = 0;
     while i < list.len() {
-        let entry = read_i64();
+        let entry = read_i64(input);
         list[i] = entry;
         i += 1;
     }
 }
 
 // Bytes after their number. Answered: that number.
-pub fn read_bytes(bytes: &mut [u8]) -> usize
-    ensures { IsPrefixLen result bytes.new }
+pub fn read_bytes(input: &mut LockedStdin, bytes: &mut [u8]) -> usize
+    ensures { (result ≤ length bytes.new) × (result ≡ length (take result bytes.new)) }
 {
-    let count = least(read_u32() as usize, bytes.len());
-    io::read_full(STDIN_FILENO, &mut bytes[..count]);
+    let count = least(read_u32(input) as usize, bytes.len());
+    read_full(input, &mut bytes[..count]);
     count
 }
 
-pub fn write_number(n: u32) {
-    io::print_decimal(STDOUT_FILENO, n as u64);
+pub fn write_number(rt: &HostRuntime, n: u32) {
+    print_decimal(rt, n as u64);
 }
 
 // A space and a number.
-pub fn write_next(x: i64) {
-    io::write_all(STDOUT_FILENO, &[b' ']);
+pub fn write_next(rt: &HostRuntime, x: i64) {
+    write_all(rt, b" ");
     if x < 0 {
-        io::write_all(STDOUT_FILENO, &[b'-']);
+        write_all(rt, b"-");
     }
-    io::print_decimal(STDOUT_FILENO, whole::size_of(x));
+    print_decimal(rt, whole::size_of(x));
 }
 
 // A space and an index.
-pub fn write_index(i: usize) {
-    io::write_all(STDOUT_FILENO, &[b' ']);
-    io::print_decimal(STDOUT_FILENO, i as u64);
+pub fn write_index(rt: &HostRuntime, i: usize) {
+    write_all(rt, b" ");
+    print_decimal(rt, i as u64);
 }
 
-pub fn end_line() {
-    io::write_all(STDOUT_FILENO, &[b'\n']);
+pub fn end_line(rt: &HostRuntime) {
+    write_all(rt, b"\n");
 }
 
 // Every entry of a list.
-pub fn write_entries(list: &[i64]) {
+pub fn write_entries(rt: &HostRuntime, list: &[i64]) {
     let mut i = 0;
     while i < list.len() {
-        write_next(list[i]);
+        write_next(rt, list[i]);
         i += 1;
     }
 }

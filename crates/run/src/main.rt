@@ -13,39 +13,40 @@ use permanent::Moved;
 use refusals::{Answer, Refusal};
 use replay::{read_f64, read_i32, read_i64, read_u8, read_u32, write_next, write_number};
 use selection::Named;
+use std::io::LockedStdin;
 
 // Room for the longest list of a case, which is of degree 60.
 const ROOM: usize = 2048;
 
-fn write_refused(refusal: Refusal) {
-    write_number(refusals::refusal_number(refusal));
+fn write_refused(rt: &HostRuntime, refusal: Refusal) {
+    write_number(rt, refusals::refusal_number(refusal));
 }
 
-fn write_answer(answer: Answer) {
-    write_number(refusals::answer_number(answer));
+fn write_answer(rt: &HostRuntime, answer: Answer) {
+    write_number(rt, refusals::answer_number(answer));
 }
 
-fn write_small(x: i32) {
-    write_next(x as i64);
+fn write_small(rt: &HostRuntime, x: i32) {
+    write_next(rt, x as i64);
 }
 
-fn write_multipliers(m: Multipliers) {
-    write_number(0);
-    write_small(m.tau);
-    write_small(m.s);
-    write_small(m.h);
-    write_small(m.p);
-    write_small(m.np);
-    write_small(m.ps);
+fn write_multipliers(rt: &HostRuntime, m: Multipliers) {
+    write_number(rt, 0);
+    write_small(rt, m.tau);
+    write_small(rt, m.s);
+    write_small(rt, m.h);
+    write_small(rt, m.p);
+    write_small(rt, m.np);
+    write_small(rt, m.ps);
 }
 
-fn read_multipliers() -> Multipliers {
-    let tau = read_i32();
-    let s = read_i32();
-    let h = read_i32();
-    let p = read_i32();
-    let np = read_i32();
-    let ps = read_i32();
+fn read_multipliers(input: &mut LockedStdin) -> Multipliers {
+    let tau = read_i32(input);
+    let s = read_i32(input);
+    let h = read_i32(input);
+    let p = read_i32(input);
+    let np = read_i32(input);
+    let ps = read_i32(input);
     Multipliers {
         tau,
         s,
@@ -56,36 +57,36 @@ fn read_multipliers() -> Multipliers {
     }
 }
 
-fn read_system() -> PermanentSystem {
-    match read_u8() {
+fn read_system(input: &mut LockedStdin) -> PermanentSystem {
+    match read_u8(input) {
         0 => PermanentSystem::TideFree,
         1 => PermanentSystem::Zero,
         _ => PermanentSystem::Mean,
     }
 }
 
-fn read_love() -> LoveModel {
-    if read_u8() == 0 {
+fn read_love(input: &mut LockedStdin) -> LoveModel {
+    if read_u8(input) == 0 {
         LoveModel::Elastic
     } else {
         LoveModel::Anelastic
     }
 }
 
-fn read_frame() -> Frame {
-    if read_u8() == 0 {
+fn read_frame(input: &mut LockedStdin) -> Frame {
+    if read_u8(input) == 0 {
         Frame::CentreOfFigure
     } else {
         Frame::CentreOfMass
     }
 }
 
-fn read_place() -> Place {
-    let kind = read_u8();
-    let one = read_f64();
-    let two = read_f64();
-    let three = read_f64();
-    let distance = read_f64();
+fn read_place(input: &mut LockedStdin) -> Place {
+    let kind = read_u8(input);
+    let one = read_f64(input);
+    let two = read_f64(input);
+    let three = read_f64(input);
+    let distance = read_f64(input);
     if kind == 0 {
         Place::Rectangular(one, two, three, distance)
     } else {
@@ -93,14 +94,14 @@ fn read_place() -> Place {
     }
 }
 
-fn read_body() -> Body {
-    let ratio = read_f64();
-    let place = read_place();
+fn read_body(input: &mut LockedStdin) -> Body {
+    let ratio = read_f64(input);
+    let place = read_place(input);
     Body { ratio, place }
 }
 
-fn read_argument() -> Argument {
-    match read_u8() {
+fn read_argument(input: &mut LockedStdin) -> Argument {
+    match read_u8(input) {
         0 => Argument::Tau,
         1 => Argument::S,
         2 => Argument::H,
@@ -110,11 +111,11 @@ fn read_argument() -> Argument {
     }
 }
 
-fn read_values() -> [i32; 49] {
+fn read_values(input: &mut LockedStdin) -> [i32; 49] {
     let mut values = [0i32; 49];
     let mut i = 0;
     while i < 49 {
-        let value = read_i32();
+        let value = read_i32(input);
         values[i] = value;
         i += 1;
     }
@@ -122,10 +123,10 @@ fn read_values() -> [i32; 49] {
 }
 
 // An hour written by hand.
-fn read_written() -> Hour {
-    let phases = replay::read_phases();
-    let cosines = read_values();
-    let sines = read_values();
+fn read_written(input: &mut LockedStdin) -> Hour {
+    let phases = replay::read_phases(input);
+    let cosines = read_values(input);
+    let sines = read_values(input);
     Hour {
         phases,
         cosines,
@@ -133,181 +134,183 @@ fn read_written() -> Hour {
     }
 }
 
-fn read_moved(hour: Hour) -> Hour {
-    let argument = read_argument();
-    let amount = read_i32();
+fn read_moved(input: &mut LockedStdin, hour: Hour) -> Hour {
+    let argument = read_argument(input);
+    let amount = read_i32(input);
     surfgimlet::move_hour(hour, argument, amount)
 }
 
-fn read_step(hour: Hour) -> Hour {
-    match read_u8() {
-        0 => surfgimlet::set_hour(replay::read_phases()),
-        1 => read_moved(hour),
-        _ => read_written(),
+fn read_step(input: &mut LockedStdin, hour: Hour) -> Hour {
+    match read_u8(input) {
+        0 => surfgimlet::set_hour(replay::read_phases(input)),
+        1 => read_moved(input, hour),
+        _ => read_written(input),
     }
 }
 
 // An hour: how many steps lead to it from the start, and each of them.
-fn read_hour() -> Hour {
+fn read_hour(input: &mut LockedStdin) -> Hour {
     let mut hour = surfgimlet::start_hour();
-    let steps = read_u32();
+    let steps = read_u32(input);
     let mut k = 0;
     while k < steps {
-        hour = read_step(hour);
+        hour = read_step(input, hour);
         k += 1;
     }
     hour
 }
 
-fn write_phases(phases: Phases) {
-    write_next(phases.tau as i64);
-    write_next(phases.s as i64);
-    write_next(phases.h as i64);
-    write_next(phases.p as i64);
-    write_next(phases.np as i64);
-    write_next(phases.ps as i64);
+fn write_phases(rt: &HostRuntime, phases: Phases) {
+    write_next(rt, phases.tau as i64);
+    write_next(rt, phases.s as i64);
+    write_next(rt, phases.h as i64);
+    write_next(rt, phases.p as i64);
+    write_next(rt, phases.np as i64);
+    write_next(rt, phases.ps as i64);
 }
 
-fn write_values(values: &[i32; 49]) {
+fn write_values(rt: &HostRuntime, values: &[i32; 49]) {
     let mut i = 0;
     while i < 49 {
-        write_small(values[i]);
+        write_small(rt, values[i]);
         i += 1;
     }
 }
 
-fn hour() {
-    let hour = read_hour();
+fn hour(rt: &HostRuntime, input: &mut LockedStdin) {
+    let hour = read_hour(input);
     let phases = hour.phases;
     let cosines = hour.cosines;
     let sines = hour.sines;
-    write_number(0);
-    write_phases(phases);
-    write_values(&cosines);
-    write_values(&sines);
+    write_number(rt, 0);
+    write_phases(rt, phases);
+    write_values(rt, &cosines);
+    write_values(rt, &sines);
 }
 
-fn multipliers_of() {
-    match surfgimlet::multipliers_of(read_u32()) {
-        Read::Multipliers(m) => write_multipliers(m),
-        Read::Refused(refusal) => write_refused(refusal),
+fn multipliers_of(rt: &HostRuntime, input: &mut LockedStdin) {
+    match surfgimlet::multipliers_of(read_u32(input)) {
+        Read::Multipliers(m) => write_multipliers(rt, m),
+        Read::Refused(refusal) => write_refused(rt, refusal),
     }
 }
 
-fn number_of() {
-    match surfgimlet::number_of(read_multipliers()) {
+fn number_of(rt: &HostRuntime, input: &mut LockedStdin) {
+    match surfgimlet::number_of(read_multipliers(input)) {
         Written::Number(number) => {
-            write_number(0);
-            write_next(number as i64);
+            write_number(rt, 0);
+            write_next(rt, number as i64);
         }
-        Written::Refused(refusal) => write_refused(refusal),
+        Written::Refused(refusal) => write_refused(rt, refusal),
     }
 }
 
-fn find_line() {
-    match surfgimlet::find_line(read_u32()) {
+fn find_line(rt: &HostRuntime, input: &mut LockedStdin) {
+    match surfgimlet::find_line(read_u32(input)) {
         Sought::Line {
             index,
             first,
             second,
         } => {
-            write_number(0);
-            replay::write_index(index);
-            write_next(first);
-            write_next(second);
+            write_number(rt, 0);
+            replay::write_index(rt, index);
+            write_next(rt, first);
+            write_next(rt, second);
         }
-        Sought::Refused(refusal) => write_refused(refusal),
+        Sought::Refused(refusal) => write_refused(rt, refusal),
     }
 }
 
-fn move_c20() {
-    let c20 = read_i64();
-    let from = read_system();
-    let to = read_system();
-    match surfgimlet::move_c20(c20, from, to, read_love()) {
+fn move_c20(rt: &HostRuntime, input: &mut LockedStdin) {
+    let c20 = read_i64(input);
+    let from = read_system(input);
+    let to = read_system(input);
+    match surfgimlet::move_c20(c20, from, to, read_love(input)) {
         Moved::C20(moved) => {
-            write_number(0);
-            write_next(moved);
+            write_number(rt, 0);
+            write_next(rt, moved);
         }
-        Moved::Refused(refusal) => write_refused(refusal),
+        Moved::Refused(refusal) => write_refused(rt, refusal),
     }
 }
 
-fn solid_tide(n: u32, c: &mut [i64], s: &mut [i64]) {
-    let love = read_love();
-    let moon = read_body();
-    let sun = read_body();
-    let hour = read_hour();
-    let selection = replay::read_u64();
+fn solid_tide(rt: &HostRuntime, input: &mut LockedStdin, n: u32, c: &mut [i64], s: &mut [i64]) {
+    let love = read_love(input);
+    let moon = read_body(input);
+    let sun = read_body(input);
+    let hour = read_hour(input);
+    let selection = replay::read_u64(input);
     match surfgimlet::solid_tide(n, c, s, moon, sun, love, hour, selection) {
         Named::Lines(lines) => {
-            write_number(0);
-            write_next(lines as i64);
+            write_number(rt, 0);
+            write_next(rt, lines as i64);
         }
-        Named::Refused(refusal) => write_refused(refusal),
+        Named::Refused(refusal) => write_refused(rt, refusal),
     }
 }
 
-fn ocean_tide(n: u32, c: &mut [i64], s: &mut [i64]) {
-    let frame = read_frame();
-    let phases = replay::read_phases();
+fn ocean_tide(rt: &HostRuntime, input: &mut LockedStdin, n: u32, c: &mut [i64], s: &mut [i64]) {
+    let frame = read_frame(input);
+    let phases = replay::read_phases(input);
     let mut sheet = [0u8; 65536];
-    let count = replay::read_bytes(&mut sheet);
-    write_answer(surfgimlet::ocean_tide(n, c, s, &sheet[..count], phases, frame));
+    let count = replay::read_bytes(input, &mut sheet);
+    write_answer(rt, surfgimlet::ocean_tide(n, c, s, &sheet[..count], phases, frame));
 }
 
-fn pole_tide(n: u32, c: &mut [i64], s: &mut [i64]) {
-    let love = read_love();
-    let xp = read_i64();
-    let yp = read_i64();
-    write_answer(surfgimlet::pole_tide(n, c, s, xp, yp, love));
+fn pole_tide(rt: &HostRuntime, input: &mut LockedStdin, n: u32, c: &mut [i64], s: &mut [i64]) {
+    let love = read_love(input);
+    let xp = read_i64(input);
+    let yp = read_i64(input);
+    write_answer(rt, surfgimlet::pole_tide(n, c, s, xp, yp, love));
 }
 
-fn called(call: u8, n: u32, c: &mut [i64], s: &mut [i64]) {
+fn called(rt: &HostRuntime, input: &mut LockedStdin, call: u8, n: u32, c: &mut [i64], s: &mut [i64]) {
     match call {
-        4 => solid_tide(n, c, s),
-        5 => ocean_tide(n, c, s),
-        _ => pole_tide(n, c, s),
+        4 => solid_tide(rt, input, n, c, s),
+        5 => ocean_tide(rt, input, n, c, s),
+        _ => pole_tide(rt, input, n, c, s),
     }
 }
 
 // A call over lists of these lengths.
-fn over_lists(call: u8, n: u32, c: &mut [i64], s: &mut [i64]) {
-    replay::read_entries(c);
-    replay::read_entries(s);
-    called(call, n, c, s);
-    replay::write_entries(c);
-    replay::write_entries(s);
+fn over_lists(rt: &HostRuntime, input: &mut LockedStdin, call: u8, n: u32, c: &mut [i64], s: &mut [i64]) {
+    replay::read_entries(input, c);
+    replay::read_entries(input, s);
+    called(rt, input, call, n, c, s);
+    replay::write_entries(rt, c);
+    replay::write_entries(rt, s);
 }
 
 // A call over a field: its degree, the lengths of its lists, and their entries come before what the call takes besides.
-fn over_field(call: u8) {
-    let n = read_u32();
+fn over_field(rt: &HostRuntime, input: &mut LockedStdin, call: u8) {
+    let n = read_u32(input);
     let mut c = [0i64; ROOM];
     let mut s = [0i64; ROOM];
-    let c_length = replay::read_count(&c);
-    let s_length = replay::read_count(&s);
-    over_lists(call, n, &mut c[..c_length], &mut s[..s_length]);
+    let c_length = replay::read_count(input, &c);
+    let s_length = replay::read_count(input, &s);
+    over_lists(rt, input, call, n, &mut c[..c_length], &mut s[..s_length]);
 }
 
-fn run_case() {
-    let call = read_u8();
+fn run_case(rt: &HostRuntime, input: &mut LockedStdin) {
+    let call = read_u8(input);
     match call {
-        0 => multipliers_of(),
-        1 => number_of(),
-        2 => find_line(),
-        3 => move_c20(),
-        7 => hour(),
-        _ => over_field(call),
+        0 => multipliers_of(rt, input),
+        1 => number_of(rt, input),
+        2 => find_line(rt, input),
+        3 => move_c20(rt, input),
+        7 => hour(rt, input),
+        _ => over_field(rt, input, call),
     }
-    replay::end_line();
+    replay::end_line(rt);
 }
 
-fn main() {
-    let cases = read_u32();
+fn main(rt: HostRuntime) {
+    let mut stdin = rt.reader();
+    let input = &mut stdin;
+    let cases = read_u32(input);
     let mut k = 0;
     while k < cases {
-        run_case();
+        run_case(&rt, input);
         k += 1;
     }
 }

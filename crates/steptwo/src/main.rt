@@ -3,16 +3,16 @@
 
 #![tactic(auto)]
 
-use libc::{STDERR_FILENO, STDIN_FILENO, STDOUT_FILENO};
+use std::io::{Eprint, Print};
 
-fn main() {
+fn main(rt: HostRuntime) {
     let mut input = [0u8; 25];
-    let read = io::read_full(STDIN_FILENO, &mut input);
+    let read = replay::read_full(&mut rt.reader(), &mut input);
     let mut text = [0u8; 256];
     let length = listing::listing(&input[..read], &mut text);
-    if io::write_all(STDOUT_FILENO, &text[..length]) {
+    if rt.write_all(&text[..length]).is_ok() {
         return;
     }
-    // A Rattle program has no exit status of its own, so that a line on standard error has to tell.
-    io::write_all(STDERR_FILENO, b"steptwo: the output could not be written\n");
+    // A status of its own would be another output: a line on standard error tells, as ever.
+    rt.eprintln("steptwo: the output could not be written").is_ok();
 }

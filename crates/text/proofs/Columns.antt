@@ -1,9 +1,9 @@
 -- Spaces, last digits and columns: how long each is, and one more of each.
-use mathlib.Core.Path.{◌≡◌, refl, sym, ap, ◌∙◌}
+use mathlib.Core.Path.{◌≡◌, refl}
 use mathlib.Core.List.{List, [], ◌∷◌, ◌++◌}
 use Prim.Native.Nat.{ℕ, zero, suc, ◌+◌, ◌-◌, ◌/◌, ◌%◌, ◌^◌, ◌≤◌, ◌<◌}
 use native.Mathlib.Omega.{arith}
-use lib.ListN.{length, replicate, set, length-append, length-replicate, replicate-append-replicate}
+use lib.ListN.{length, set, length-append, length-replicate, replicate-append-replicate}
 use Rattle.text.specs.Text.{ascii, digit, decimal, last_digits, fixed_point, spaces, padded}
 use Rattle.text.specs.Inner.{Put}
 use Rattle.text.proofs.Puts.{put_then}

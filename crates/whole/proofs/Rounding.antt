@@ -5,7 +5,7 @@ use mathlib.Core.Logic.{⊎_elim}
 use native.Mathlib.Nat.{eq-or-lt_of_le, mul-le-mul_left, lt_of_mul-lt-mul_left, div-mul-le_self, lt-div-mul-add, div-eq_of_lt, div-div-eq-div-mul}
 use native.Mathlib.Omega.{arith}
 use mathlib.Core.List.{[], ◌∷◌}
-use lib.IntN.{ℤ, pos, negsuc, neg_ℤ, nat_abs, ◌+ℤ◌, ◌-ℤ◌, ◌*ℤ◌, -ℤ-+ℤ_cancel, neg_ℤ-neg_ℤ}
+use lib.IntN.{ℤ, pos, negsuc, neg_ℤ, nat_abs, ◌-ℤ◌, ◌*ℤ◌, -ℤ-+ℤ_cancel, neg_ℤ-neg_ℤ}
 use Rattle.whole.specs.Nearest.{half_up, nearest, NearestTo}
 use Rattle.whole.proofs.Parts.{up, dn, difference, product, abs, abs_neg, abs_twice, abs_sum, abs_product}
 use Rattle.whole.proofs.Ring.{equal, !, ⊝, ◌⊕◌, ◌⊖◌, ◌⊗◌}

@@ -7,7 +7,6 @@ use Rattle.field.proofs.add_run.Goals.{In-loop-k}
 
 -- in a turn of the loop
 module _ (c : In-loop-k) where
-
   abbrev list : List ℤ
   list = c.loop-k.list
 

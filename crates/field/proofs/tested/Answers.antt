@@ -10,7 +10,6 @@ tested-both a b c d p q = rw (p, q) refl
 
 -- where the shape passed
 module _ (c : After-all_in_range-then-is_shaped) where
-
   ranges : (every_in_range c.args.c.now && every_in_range c.args.s.now) ≡ (c.all_in_range.result && c.all_in_range-then-is_shaped.result)
   ranges = tested-both _ _ _ _ c.all_in_range.ensures c.all_in_range-then-is_shaped.ensures
 

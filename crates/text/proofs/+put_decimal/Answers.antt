@@ -1,5 +1,5 @@
 -- Above one digit, the digits but the last are put first, by the same call on a tenth of the number.
-use Rattle.std.proofs.Common.{arith, ◌≡◌, ◌+◌, ◌/◌, ◌%◌, ◌++◌, ◌∷◌, [], ◌≤◌, ap, length, length-append}
+use Rattle.std.proofs.Common.{arith, ◌/◌, ◌%◌, ◌∷◌, [], ap, length, length-append}
 use Rattle.text.specs.Text.{decimal, digit}
 use Rattle.text.proofs.Puts.{put_then, put_length}
 use Rattle.text.proofs.Decimals.{one_digit, last_digit}

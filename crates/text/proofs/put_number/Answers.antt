@@ -1,5 +1,5 @@
 -- A negative number is its sign and then its size in decimal, any other its size.
-use Rattle.std.proofs.Common.{◌≡◌, sym, ap, ◌∙◌, ◌++◌, suc, ◌+◌, ◌≤◌, arith, ℤ, nat_abs, length, to_z-of_z}
+use Rattle.std.proofs.Common.{◌≡◌, sym, ap, ◌∙◌, ◌++◌, suc, ◌+◌, ◌≤◌, arith, nat_abs, length, to_z-of_z}
 use Rattle.text.specs.Text.{ascii, decimal, number}
 use Rattle.text.proofs.Puts.{put_then, put_length}
 use Rattle.text.proofs.Numbers.{below_zero, from_zero}

@@ -14,14 +14,13 @@ product_small c = mul-le-mul (start c).requires.0 c.step_of-h-5.ensures.1
 
 pub returns : goal.returns
 unfolding steps
-returns c =
-    (
-      rw (
-        c.step_of-h-5.ensures.0,
-        c.step_of-h-4.ensures.0,
-        c.step_of-h-3.ensures.0,
-        c.step_of-h-2.ensures.0,
-        c.step_of-h.ensures.0,
-      ),
-      omega (arith, product_small (goal.at.returns c).After-step_of-h-5),
-    )
+returns c = (
+  rw (
+    c.step_of-h-5.ensures.0,
+    c.step_of-h-4.ensures.0,
+    c.step_of-h-3.ensures.0,
+    c.step_of-h-2.ensures.0,
+    c.step_of-h.ensures.0,
+  ),
+  omega (arith, product_small (goal.at.returns c).After-step_of-h-5),
+)

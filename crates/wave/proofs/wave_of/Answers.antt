@@ -1,7 +1,7 @@
 -- The fold is the definition's, S(a) and C(a) are worked out once, and in each eighth the sine and the cosine are one of the two with a sign.
 use borrow.Author.Tests.{eq-eqb, ne_eqb}
 use mathlib.Core.Path.{◌≡◌}
-use Prim.Native.Nat.{ℕ, ◌+◌, ◌/◌, ◌%◌, ◌^◌, ◌≤◌, ◌<◌}
+use Prim.Native.Nat.{ℕ, ◌+◌, ◌/◌, ◌%◌, ◌^◌, ◌≤◌}
 use native.Mathlib.Omega.{arith}
 use lib.IntN.{ℤ, pos, neg_ℤ, ◌-ℤ◌}
 use mir.Syntax.{w64}
@@ -35,7 +35,6 @@ module _ {v : ℕ} (small : v ≤ 2 ^ 30) where
   minus = minus_read w64 v plus (omega arith)
 
 module _ (c : After-eighth_cosine_of-c) where
-
   abbrev t : ℕ
   t = c.args.phase
 

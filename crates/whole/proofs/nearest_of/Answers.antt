@@ -1,6 +1,5 @@
 -- The size is rounded, a half up, and gets the sign back: the law of either sign.
 use Rattle.std.proofs.Common.{◌≡◌, sym, ap, ◌∙◌, ℕ, ◌+◌, ◌/◌, ◌^◌, ◌<◌, ℤ, pos, neg_ℤ, nat_abs, w64, to_z, to_z-of_z, arith}
-use Prim.Native.Nat.{◌*◌}
 use native.Mathlib.Nat.{div-mul-le_self, mul-le-mul_left}
 use mir.Facts.{to_z_pos}
 use Rattle.whole.specs.Nearest.{nearest}
