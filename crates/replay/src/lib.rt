@@ -6,10 +6,10 @@
 ghost use Rattle.std.specs.Prelude.{◌≡◌, ◌≤◌, ◌<◌, length, take};
 
 use arguments::Phases;
-use std::io::{LockedStdin, Print, Read};
+use std::io::{Print, Read, StdinLock};
 
 // Reads until the bytes are full, the input ends or a read fails. Answered: how many were read.
-pub fn read_full(input: &mut LockedStdin, bytes: &mut [u8]) -> usize
+pub fn read_full(input: &mut StdinLock, bytes: &mut [u8]) -> usize
     ensures { (result ≤ length bytes.new) × (result ≡ length (take result bytes.new)) }
 {
     let mut done = 0;
@@ -38,19 +38,19 @@ fn wide(b: u8) -> u32
     b as u32
 }
 
-pub fn read_u8(input: &mut LockedStdin) -> u8 {
+pub fn read_u8(input: &mut StdinLock) -> u8 {
     let mut b = [0u8; 1];
     read_full(input, &mut b);
     b[0]
 }
 
-pub fn read_u32(input: &mut LockedStdin) -> u32 {
+pub fn read_u32(input: &mut StdinLock) -> u32 {
     let mut b = [0u8; 4];
     read_full(input, &mut b);
     wide(b[0]) + 256 * wide(b[1]) + 65536 * wide(b[2]) + 16777216 * wide(b[3])
 }
 
-pub fn read_u64(input: &mut LockedStdin) -> u64 {
+pub fn read_u64(input: &mut StdinLock) -> u64 {
     let low = read_u32(input);
     let high = read_u32(input);
     low as u64 + 4294967296 * (high as u64)
@@ -73,11 +73,11 @@ fn signed_64(v: u64) -> i64 {
     }
 }
 
-pub fn read_i32(input: &mut LockedStdin) -> i32 {
+pub fn read_i32(input: &mut StdinLock) -> i32 {
     signed_32(read_u32(input))
 }
 
-pub fn read_i64(input: &mut LockedStdin) -> i64 {
+pub fn read_i64(input: &mut StdinLock) -> i64 {
     signed_64(read_u64(input))
 }
 
@@ -92,11 +92,11 @@ fn float_of(b: u64) -> f64 {
     0.0 / 0.0
 }
 
-pub fn read_f64(input: &mut LockedStdin) -> f64 {
+pub fn read_f64(input: &mut StdinLock) -> f64 {
     float_of(read_u64(input))
 }
 
-pub fn read_phases(input: &mut LockedStdin) -> Phases {
+pub fn read_phases(input: &mut StdinLock) -> Phases {
     let tau = read_u32(input);
     let s = read_u32(input);
     let h = read_u32(input);
@@ -114,7 +114,7 @@ pub fn read_phases(input: &mut LockedStdin) -> Phases {
 }
 
 // How many entries of a list there are, of those that it has room for.
-pub fn read_count(input: &mut LockedStdin, list: &[i64]) -> usize
+pub fn read_count(input: &mut StdinLock, list: &[i64]) -> usize
     ensures { (result ≤ length list.now) × (result ≡ length (take result list.now)) }
 {
     least(read_u32(input) as usize, list.len())
@@ -127,7 +127,7 @@ fn least(a: usize, b: usize) -> usize
 }
 
 // Every entry of a list.
-pub fn read_entries(input: &mut LockedStdin, list: &mut [i64]) {
+pub fn read_entries(input: &mut StdinLock, list: &mut [i64]) {
     let mut i = 0;
     while i < list.len() {
         let entry = read_i64(input);
@@ -137,7 +137,7 @@ pub fn read_entries(input: &mut LockedStdin, list: &mut [i64]) {
 }
 
 // Bytes after their number. Answered: that number.
-pub fn read_bytes(input: &mut LockedStdin, bytes: &mut [u8]) -> usize
+pub fn read_bytes(input: &mut StdinLock, bytes: &mut [u8]) -> usize
     ensures { (result ≤ length bytes.new) × (result ≡ length (take result bytes.new)) }
 {
     let count = least(read_u32(input) as usize, bytes.len());

@@ -13,7 +13,7 @@ use permanent::Moved;
 use refusals::{Answer, Refusal};
 use replay::{read_f64, read_i32, read_i64, read_u8, read_u32, write_next, write_number};
 use selection::Named;
-use std::io::LockedStdin;
+use std::io::StdinLock;
 
 // Room for the longest list of a case, which is of degree 60.
 const ROOM: usize = 2048;
@@ -40,7 +40,7 @@ fn write_multipliers(rt: &HostRuntime, m: Multipliers) {
     write_small(rt, m.ps);
 }
 
-fn read_multipliers(input: &mut LockedStdin) -> Multipliers {
+fn read_multipliers(input: &mut StdinLock) -> Multipliers {
     let tau = read_i32(input);
     let s = read_i32(input);
     let h = read_i32(input);
@@ -57,7 +57,7 @@ fn read_multipliers(input: &mut LockedStdin) -> Multipliers {
     }
 }
 
-fn read_system(input: &mut LockedStdin) -> PermanentSystem {
+fn read_system(input: &mut StdinLock) -> PermanentSystem {
     match read_u8(input) {
         0 => PermanentSystem::TideFree,
         1 => PermanentSystem::Zero,
@@ -65,7 +65,7 @@ fn read_system(input: &mut LockedStdin) -> PermanentSystem {
     }
 }
 
-fn read_love(input: &mut LockedStdin) -> LoveModel {
+fn read_love(input: &mut StdinLock) -> LoveModel {
     if read_u8(input) == 0 {
         LoveModel::Elastic
     } else {
@@ -73,7 +73,7 @@ fn read_love(input: &mut LockedStdin) -> LoveModel {
     }
 }
 
-fn read_frame(input: &mut LockedStdin) -> Frame {
+fn read_frame(input: &mut StdinLock) -> Frame {
     if read_u8(input) == 0 {
         Frame::CentreOfFigure
     } else {
@@ -81,7 +81,7 @@ fn read_frame(input: &mut LockedStdin) -> Frame {
     }
 }
 
-fn read_place(input: &mut LockedStdin) -> Place {
+fn read_place(input: &mut StdinLock) -> Place {
     let kind = read_u8(input);
     let one = read_f64(input);
     let two = read_f64(input);
@@ -94,13 +94,13 @@ fn read_place(input: &mut LockedStdin) -> Place {
     }
 }
 
-fn read_body(input: &mut LockedStdin) -> Body {
+fn read_body(input: &mut StdinLock) -> Body {
     let ratio = read_f64(input);
     let place = read_place(input);
     Body { ratio, place }
 }
 
-fn read_argument(input: &mut LockedStdin) -> Argument {
+fn read_argument(input: &mut StdinLock) -> Argument {
     match read_u8(input) {
         0 => Argument::Tau,
         1 => Argument::S,
@@ -111,7 +111,7 @@ fn read_argument(input: &mut LockedStdin) -> Argument {
     }
 }
 
-fn read_values(input: &mut LockedStdin) -> [i32; 49] {
+fn read_values(input: &mut StdinLock) -> [i32; 49] {
     let mut values = [0i32; 49];
     let mut i = 0;
     while i < 49 {
@@ -123,7 +123,7 @@ fn read_values(input: &mut LockedStdin) -> [i32; 49] {
 }
 
 // An hour written by hand.
-fn read_written(input: &mut LockedStdin) -> Hour {
+fn read_written(input: &mut StdinLock) -> Hour {
     let phases = replay::read_phases(input);
     let cosines = read_values(input);
     let sines = read_values(input);
@@ -134,13 +134,13 @@ fn read_written(input: &mut LockedStdin) -> Hour {
     }
 }
 
-fn read_moved(input: &mut LockedStdin, hour: Hour) -> Hour {
+fn read_moved(input: &mut StdinLock, hour: Hour) -> Hour {
     let argument = read_argument(input);
     let amount = read_i32(input);
     surfgimlet::move_hour(hour, argument, amount)
 }
 
-fn read_step(input: &mut LockedStdin, hour: Hour) -> Hour {
+fn read_step(input: &mut StdinLock, hour: Hour) -> Hour {
     match read_u8(input) {
         0 => surfgimlet::set_hour(replay::read_phases(input)),
         1 => read_moved(input, hour),
@@ -149,7 +149,7 @@ fn read_step(input: &mut LockedStdin, hour: Hour) -> Hour {
 }
 
 // An hour: how many steps lead to it from the start, and each of them.
-fn read_hour(input: &mut LockedStdin) -> Hour {
+fn read_hour(input: &mut StdinLock) -> Hour {
     let mut hour = surfgimlet::start_hour();
     let steps = read_u32(input);
     let mut k = 0;
@@ -177,7 +177,7 @@ fn write_values(rt: &HostRuntime, values: &[i32; 49]) {
     }
 }
 
-fn hour(rt: &HostRuntime, input: &mut LockedStdin) {
+fn hour(rt: &HostRuntime, input: &mut StdinLock) {
     let hour = read_hour(input);
     let phases = hour.phases;
     let cosines = hour.cosines;
@@ -188,14 +188,14 @@ fn hour(rt: &HostRuntime, input: &mut LockedStdin) {
     write_values(rt, &sines);
 }
 
-fn multipliers_of(rt: &HostRuntime, input: &mut LockedStdin) {
+fn multipliers_of(rt: &HostRuntime, input: &mut StdinLock) {
     match surfgimlet::multipliers_of(read_u32(input)) {
         Read::Multipliers(m) => write_multipliers(rt, m),
         Read::Refused(refusal) => write_refused(rt, refusal),
     }
 }
 
-fn number_of(rt: &HostRuntime, input: &mut LockedStdin) {
+fn number_of(rt: &HostRuntime, input: &mut StdinLock) {
     match surfgimlet::number_of(read_multipliers(input)) {
         Written::Number(number) => {
             write_number(rt, 0);
@@ -205,7 +205,7 @@ fn number_of(rt: &HostRuntime, input: &mut LockedStdin) {
     }
 }
 
-fn find_line(rt: &HostRuntime, input: &mut LockedStdin) {
+fn find_line(rt: &HostRuntime, input: &mut StdinLock) {
     match surfgimlet::find_line(read_u32(input)) {
         Sought::Line {
             index,
@@ -221,7 +221,7 @@ fn find_line(rt: &HostRuntime, input: &mut LockedStdin) {
     }
 }
 
-fn move_c20(rt: &HostRuntime, input: &mut LockedStdin) {
+fn move_c20(rt: &HostRuntime, input: &mut StdinLock) {
     let c20 = read_i64(input);
     let from = read_system(input);
     let to = read_system(input);
@@ -234,7 +234,7 @@ fn move_c20(rt: &HostRuntime, input: &mut LockedStdin) {
     }
 }
 
-fn solid_tide(rt: &HostRuntime, input: &mut LockedStdin, n: u32, c: &mut [i64], s: &mut [i64]) {
+fn solid_tide(rt: &HostRuntime, input: &mut StdinLock, n: u32, c: &mut [i64], s: &mut [i64]) {
     let love = read_love(input);
     let moon = read_body(input);
     let sun = read_body(input);
@@ -249,7 +249,7 @@ fn solid_tide(rt: &HostRuntime, input: &mut LockedStdin, n: u32, c: &mut [i64], 
     }
 }
 
-fn ocean_tide(rt: &HostRuntime, input: &mut LockedStdin, n: u32, c: &mut [i64], s: &mut [i64]) {
+fn ocean_tide(rt: &HostRuntime, input: &mut StdinLock, n: u32, c: &mut [i64], s: &mut [i64]) {
     let frame = read_frame(input);
     let phases = replay::read_phases(input);
     let mut sheet = [0u8; 65536];
@@ -257,14 +257,14 @@ fn ocean_tide(rt: &HostRuntime, input: &mut LockedStdin, n: u32, c: &mut [i64], 
     write_answer(rt, surfgimlet::ocean_tide(n, c, s, &sheet[..count], phases, frame));
 }
 
-fn pole_tide(rt: &HostRuntime, input: &mut LockedStdin, n: u32, c: &mut [i64], s: &mut [i64]) {
+fn pole_tide(rt: &HostRuntime, input: &mut StdinLock, n: u32, c: &mut [i64], s: &mut [i64]) {
     let love = read_love(input);
     let xp = read_i64(input);
     let yp = read_i64(input);
     write_answer(rt, surfgimlet::pole_tide(n, c, s, xp, yp, love));
 }
 
-fn called(rt: &HostRuntime, input: &mut LockedStdin, call: u8, n: u32, c: &mut [i64], s: &mut [i64]) {
+fn called(rt: &HostRuntime, input: &mut StdinLock, call: u8, n: u32, c: &mut [i64], s: &mut [i64]) {
     match call {
         4 => solid_tide(rt, input, n, c, s),
         5 => ocean_tide(rt, input, n, c, s),
@@ -273,7 +273,7 @@ fn called(rt: &HostRuntime, input: &mut LockedStdin, call: u8, n: u32, c: &mut [
 }
 
 // A call over lists of these lengths.
-fn over_lists(rt: &HostRuntime, input: &mut LockedStdin, call: u8, n: u32, c: &mut [i64], s: &mut [i64]) {
+fn over_lists(rt: &HostRuntime, input: &mut StdinLock, call: u8, n: u32, c: &mut [i64], s: &mut [i64]) {
     replay::read_entries(input, c);
     replay::read_entries(input, s);
     called(rt, input, call, n, c, s);
@@ -282,7 +282,7 @@ fn over_lists(rt: &HostRuntime, input: &mut LockedStdin, call: u8, n: u32, c: &m
 }
 
 // A call over a field: its degree, the lengths of its lists, and their entries come before what the call takes besides.
-fn over_field(rt: &HostRuntime, input: &mut LockedStdin, call: u8) {
+fn over_field(rt: &HostRuntime, input: &mut StdinLock, call: u8) {
     let n = read_u32(input);
     let mut c = [0i64; ROOM];
     let mut s = [0i64; ROOM];
@@ -291,7 +291,7 @@ fn over_field(rt: &HostRuntime, input: &mut LockedStdin, call: u8) {
     over_lists(rt, input, call, n, &mut c[..c_length], &mut s[..s_length]);
 }
 
-fn run_case(rt: &HostRuntime, input: &mut LockedStdin) {
+fn run_case(rt: &HostRuntime, input: &mut StdinLock) {
     let call = read_u8(input);
     match call {
         0 => multipliers_of(rt, input),
