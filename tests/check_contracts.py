@@ -35,13 +35,12 @@ def faults(name, given, answer, clauses):
     if not ensured:
         yield 'has no ensures'
         return
-    bound = re.search(r'λ (\w+)\.(.*)', ensured[1], re.S)
-    if answer and not (bound and re.search(rf'\b{bound[1]}\b', bound[2])):
+    if answer and not re.search(r'\bresult\b', ensured[1]):
         yield 'has an ensures that says nothing of the answer'
     for parameter, kind in parameters(given):
         if not re.search(rf'\b{parameter}\b', ensured[1]):
             yield f'has an ensures that does not name {parameter}'
-        elif kind.startswith('&mut') and not re.search(rf'\b{parameter} \.exit\b', ensured[1]):
+        elif kind.startswith('&mut') and not re.search(rf'\b{parameter}\.new\b', ensured[1]):
             yield f'has an ensures that does not say what {parameter} is on return'
 
 

@@ -27,7 +27,7 @@ def files():
 def floors():
     table = read('README.md').partition('| Floor | Crates |')[2].partition('\n\n')[0]
     at = {crate: floor for floor, row in enumerate(table.splitlines()) for crate in re.findall(r'`(\w+)`', row)}
-    needs = dict(re.findall(r'^(\w+):(.*)$', read('crates.txt'), re.M))
+    needs = dict(re.findall(r'^(\w+)(?: staticlib)?:(.*)$', read('crates.txt'), re.M))
     for crate in sorted(at.keys() ^ needs.keys()):
         yield f'README.md, crates.txt: {crate} stands in one of them only'
     for crate, below in needs.items():
