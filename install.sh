@@ -11,13 +11,13 @@ cd "$(dirname "${BASH_SOURCE[0]}")"
 for tool in rt ${CC%% *}; do command -v "$tool" >/dev/null || { echo "missing: $tool" >&2; exit 1; }; done
 
 mkdir -p target "$prefix/include" "$prefix/lib/pkgconfig" "$prefix/share/surfgimlet"
-rt staticlib boundary >target/install.log 2>&1 || { tail -n 20 target/install.log >&2; exit 1; }
+(cd crates/boundary && exec rt lib) >target/install.log 2>&1 || { tail -n 20 target/install.log >&2; exit 1; }
 
 lib=$prefix/lib
 number=$(sed -n 's/^#define SURFGIMLET_VERSION //p' include/surfgimlet.h)
 # the major number is in the name: a program that was linked with another one does not start
 shared=libsurfgimlet.so.$((number / 1000000))
-install -m 644 target/staticlib/libboundary.a "$lib/libsurfgimlet.a"
+install -m 644 crates/boundary/out/libboundary.a "$lib/libsurfgimlet.a"
 $CC -shared -Wl,-soname,"$shared" -Wl,-z,defs -Wl,--whole-archive "$lib/libsurfgimlet.a" -Wl,--no-whole-archive -o "$lib/$shared"
 ln -sf "$shared" "$lib/libsurfgimlet.so"
 install -m 644 include/surfgimlet.h "$prefix/include/"

@@ -1,5 +1,5 @@
 """Runs the built program `steptwo` on standard inputs of other lengths and phases than its stored one, and holds what it writes to the second program's
-text, byte for byte. Output that cannot be written must be told. Run it where target/bin/steptwo is built.
+text, byte for byte. Output that cannot be written must be told. Run it where crates/steptwo/out/steptwo is built.
 """
 
 import os
@@ -15,7 +15,7 @@ sys.path.insert(0, str(ROOT / 'second'))
 import tides
 from chance import Chance
 
-PROGRAM = ([] if platform.machine() == 'x86_64' else ['qemu-x86_64', '-L', '/usr/x86_64-linux-gnu']) + [str(ROOT / 'target' / 'bin' / 'steptwo')]
+PROGRAM = ([] if platform.machine() == 'x86_64' else ['qemu-x86_64', '-L', '/usr/x86_64-linux-gnu']) + [str(ROOT / 'crates' / 'steptwo' / 'out' / 'steptwo')]
 LENGTHS = 0, 1, 23, 24, 25, 48
 PHASES = 300
 

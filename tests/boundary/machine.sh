@@ -23,11 +23,11 @@ fi
 [ -z "$(missing)" ] || { echo "missing: $(missing) (Debian's packages: $packages)"; exit 1; }
 command -v rt >/dev/null || { echo "missing: rt (the Rattle toolchain)"; exit 1; }
 
-ARCHIVE=target/staticlib/libboundary.a
+ARCHIVE=crates/boundary/out/libboundary.a
 BUILD=target/boundary
 
 # prove and write the archive of a crate, or say why not
 archive() {
     mkdir -p target
-    rt staticlib "$1" >"target/staticlib-$1.log" 2>&1 || { tail -n 20 "target/staticlib-$1.log"; exit 1; }
+    (cd "crates/$1" && exec rt lib) >"target/lib-$1.log" 2>&1 || { tail -n 20 "target/lib-$1.log"; exit 1; }
 }
