@@ -2,12 +2,8 @@
 use mathlib.Core.Path.{refl}
 use Rattle.lines.specs.Lines.{diurnal, long_period, semidiurnal, printed}
 use Rattle.lines.specs.Inner.{digits_of, digits, firsts, seconds}
-use Rattle.lines.proofs.printed_tables.Statement.{statement}
-use Rattle.lines.proofs.printed_tables.Tie as tie
+use Rattle.lines.proofs.printed_tables.Goals as goal
 
-returns : tie.Need-returns
+pub returns : goal.returns
 unfolding digits firsts seconds digits_of printed diurnal long_period semidiurnal
 returns c = (refl, (refl, refl))
-
-pub printed-tables-spec : {M : Type 1} → statement M
-printed-tables-spec = tie.close (tie.spec returns)
