@@ -1,11 +1,10 @@
 -- What accepted counts have: a size of at most 2^53 each, and nothing for S at order 0.
 use mathlib.Core.Path.{◌≡◌, refl, subst}
 use mathlib.Core.Bool.{Bool, true, false, ◌&&◌, cond}
-use Prim.Native.Nat.{ℕ, ◌^◌, ◌≤◌}
 use native.Mathlib.Omega.{arith}
 use lib.Dec.{T}
 use lib.Ieee.Fits.{and_l, and_r}
-use lib.IntN.{pos, nat_abs}
+use lib.IntN.{pos}
 use lib.ListN.{get_or}
 use Rattle.choices.specs.declared.LoveModel.{LoveModel}
 use Rattle.refusals.specs.Told.{Told, next}
