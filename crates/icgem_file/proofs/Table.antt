@@ -3,13 +3,12 @@ use mathlib.Core.Bool.{Bool, true, false, cond, ◌&&◌}
 use mathlib.Core.Path.{◌≡◌, refl}
 use mathlib.Core.List.{List}
 use Prim.Native.Nat.{ℕ}
-use Rattle.field.specs.Field.{shaped_by}
 use Rattle.limits.specs.Limits.{is_degree}
 use Rattle.refusals.specs.Outcome.{first_of}
 use Rattle.refusals.specs.Told.{told_number}
 use Rattle.icgem_file.specs.Header.{data_of, degree_of, system_word}
 use Rattle.icgem_file.specs.Data.{repeated, all_in_range}
-use Rattle.icgem_file.specs.File.{formed, system_said, file_refusal, read_refusal}
+use Rattle.icgem_file.specs.File.{formed, system_said, file_refusal}
 use Rattle.icgem_words.specs.Words.{worded}
 
 in_turn : (form twice within : Bool) (system : ℕ)

@@ -1,5 +1,5 @@
 -- The coefficient lines of a gravity field file (document 02, T-10): "gfc", degree, order, C, S, and 0, 2 or 4 error columns.
-use Rattle.std.specs.Prelude.{Bool, true, false, cond, not, ◌&&◌, ◌||◌, List, [], ◌∷◌, ℕ, eqb, leb, ℤ, length, get_or, drop, set}
+use Rattle.std.specs.Prelude.{Bool, true, false, ◌&&◌, ◌||◌, List, [], ◌∷◌, ℕ, eqb, leb, ℤ, length, get_or, drop, set}
 use Rattle.field.specs.Field.{place}
 use Rattle.limits.specs.Limits.{is_entry}
 use Rattle.icgem_decimal.specs.Decimal.{is_whole, is_decimal, value_of, in_units}

@@ -1,5 +1,5 @@
 -- A gravity field file read (document 02, T-10): its refusals 17, 18, 19, 20 and 1 in this order, and what it gives.
-use Rattle.std.specs.Prelude.{Bool, cond, not, ◌&&◌, List, ℕ, eqb, leb, ℤ, pos, length, replicate}
+use Rattle.std.specs.Prelude.{Bool, cond, ◌&&◌, List, ℕ, eqb, leb, ℤ, pos, length, replicate}
 use Rattle.choices.specs.declared.PermanentSystem.{PermanentSystem}
 use Rattle.choices.specs.declared.PermanentSystem.TheVariants.{TideFree, Zero, Mean}
 use Rattle.field.specs.Field.{size, shaped_by}

@@ -1,9 +1,9 @@
 -- The header of a gravity field file (document 02, T-10). A line is the list of its words; lines without a word are passed over.
-use Rattle.std.specs.Prelude.{Bool, true, false, cond, not, ◌&&◌, ◌||◌, List, [], ◌∷◌, ℕ, ◌^◌, leb, ℤ, nat_abs, length, get_or}
+use Rattle.std.specs.Prelude.{Bool, false, cond, not, ◌&&◌, ◌||◌, List, [], ◌∷◌, ℕ, leb, nat_abs, length, get_or}
 use Rattle.std.specs.Int.Signed.{non_neg}
 use Rattle.icgem_decimal.specs.Decimal.{is_whole, is_decimal, value_of, in_units}
 use Rattle.icgem_names.specs.Names as names
-use Rattle.icgem_words.specs.Words.{same_word, worded}
+use Rattle.icgem_words.specs.Words.{same_word}
 
 abbrev pub Word : Type 0
 Word = List ℕ

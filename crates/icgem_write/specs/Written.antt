@@ -1,5 +1,5 @@
 -- The text of a field (document 02, T-10: "Write a field back with 15 decimals"). Every line has 53 characters and a line feed.
-use Rattle.std.specs.Prelude.{List, [], ◌∷◌, ◌++◌, ℕ, zero, suc, ◌-◌, ℤ, pos, negsuc, length, get_or}
+use Rattle.std.specs.Prelude.{List, [], ◌++◌, ℕ, zero, suc, ◌-◌, ℤ, pos, negsuc, length, get_or}
 use Rattle.choices.specs.declared.PermanentSystem.{PermanentSystem}
 use Rattle.field.specs.Field.{place}
 use Rattle.icgem_names.specs.Names as names
