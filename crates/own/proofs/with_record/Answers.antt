@@ -1,5 +1,4 @@
 -- A record in range adds its line's terms; one that is not, or an earlier one, ends the sums.
-use borrow.Author.Rules.{rules}
 use mathlib.Core.Bool.{true, false}
 use mathlib.Core.Path.{◌≡◌, refl, sym, ap, ◌∙◌}
 use Prim.Native.Nat.{ℕ, ◌^◌, ◌≤◌}
@@ -25,8 +24,8 @@ use Rattle.own.specs.declared.Summed.{Summed}
 use Rattle.own.specs.Own.{multipliers_of, line_of, in_range}
 use Rattle.own.specs.Inner.{after, with_record}
 use Rattle.own.proofs.Records.{record_light}
-use Rattle.own.proofs.with_record.Statement.{statement}
-use Rattle.own.proofs.with_record.Tie as tie
+use Rattle.own.proofs.with_record.Goals as goal
+use Rattle.own.proofs.with_record.Goals.{After-line_of}
 
 -- the three ways on
 module _ (phases : Phases) (sum : Summed) (l : OwnLine) where
@@ -51,63 +50,46 @@ wave-small : {w : ℤ} (v : ℤ) → w ≡ v → nat_abs v ≤ 2 ^ 30 → nat_ab
 wave-small v e h = rw e (omega arith)
 
 -- a record in range, once its line and its wave are had
-module _ (c : tie.After-line-of) where
-  abbrev start : tie.Start
-  start = c.before.before.before.before.before.before.before.before.before
-
+module _ (c : After-line_of) where
   abbrev l : OwnLine
-  l = start.args.line
+  l = c.args.line
 
   abbrev at : ℕ
-  at = phase (multipliers_of l) start.args.phases
+  at = phase (multipliers_of l) c.args.phases
 
   in-range : in_range l ≡ true
-  in-range = sym c.before.before.before.before.before.is_in_range.ensures ∙ c.before.before.before.before.if1.true
+  in-range = sym c.is_in_range.ensures ∙ c.if-is_in_range.true
 
-  at-phase : c.before.before.phase-of.result ≡ at
-  at-phase = c.before.before.phase-of.ensures ∙ ap (λ m. phase m start.args.phases) c.before.before.before.multipliers-of.ensures
+  at-phase : c.phase_of.result ≡ at
+  at-phase = c.phase_of.ensures ∙ ap (λ m. phase m c.args.phases) c.multipliers_of.ensures
 
-  cosine : read c.before.wave-of.result.cosine ≡ cos at
-  cosine = wave-read (cos at) (c.before.wave-of.ensures.1 ∙ ap cos at-phase) (cos_size at)
+  cosine : read c.wave_of-wave.result.cosine ≡ cos at
+  cosine = wave-read (cos at) (c.wave_of-wave.ensures.1 ∙ ap cos at-phase) (cos_size at)
 
-  sine : read c.before.wave-of.result.sine ≡ sin at
-  sine = wave-read (sin at) (c.before.wave-of.ensures.0 ∙ ap sin at-phase) (sin_size at)
+  sine : read c.wave_of-wave.result.sine ≡ sin at
+  sine = wave-read (sin at) (c.wave_of-wave.ensures.0 ∙ ap sin at-phase) (sin_size at)
 
-line-of-requires : tie.Need-line-of-requires
-line-of-requires c κs = sym c.before.before.before.before.is_in_range.ensures ∙ c.before.before.before.if1.true
-
-with-line-requires : tie.Need-with-line-requires
-with-line-requires c κs =
-    let a = c.before.before in
-    let cosine-small = wave-small (cos (at a)) (cosine a) (cos_size (at a)) in
-    let sine-small = wave-small (sin (at a)) (sine a) (sin_size (at a)) in
+pub with_line-requires : goal.with_line-requires
+with_line-requires c =
+    let cosine-small = wave-small (cos (at (goal.at.with_line-requires c).After-line_of)) (cosine (goal.at.with_line-requires c).After-line_of) (cos_size (at (goal.at.with_line-requires c).After-line_of)) in
+    let sine-small = wave-small (sin (at (goal.at.with_line-requires c).After-line_of)) (sine (goal.at.with_line-requires c).After-line_of) (sin_size (at (goal.at.with_line-requires c).After-line_of)) in
     record {
-      sums_small = (start a).requires;
-      line_small = rw a.Line-of.ensures (lighter (omega arith) (record_light (l a) (in-range a)));
+      sums_small = c.requires;
+      line_small = rw c.line_of.ensures (lighter (omega arith) (record_light (l (goal.at.with_line-requires c).After-line_of) (in-range (goal.at.with_line-requires c).After-line_of)));
       cosine-small = search (cosine-small, sine-small);
       sine-small = search (cosine-small, sine-small);
     }
 
-returns : tie.Need-returns
-returns c =
-    let s = c.before.before.before.before in
-    kept s.args.phases s.args.sum s.args.line c.before.answer.given.0.0 c.before.answer.given.1
+pub returns-in-Refused : goal.returns-in-Refused
+returns-in-Refused c =
+    kept c.args.phases c.args.sum c.args.line c.in-Refused.why c.in-Refused.is
 
-returns-2 : tie.Need-returns-2
-returns-2 c =
-    let a = c.before.before.before in
-    let x = (start a).args in
-    added x.phases x.sum x.line c.before.before.before.before.before.before.before.before.before.enum_told.given.1 (in-range a) c.with-line.result
-    (c.with-line.ensures ∙ (λ i. plus_line x.sum.sums (a.Line-of.ensures i) (cosine a i) (sine a i)))
+pub returns-then-is_in_range : goal.returns-then-is_in_range
+returns-then-is_in_range c =
+    let x = c.args in
+    added x.phases x.sum x.line c.in-Accepted.is (in-range (goal.at.returns-then-is_in_range c).After-line_of) c.with_line.result
+    (c.with_line.ensures ∙ (λ i. plus_line x.sum.sums (c.line_of.ensures i) (cosine (goal.at.returns-then-is_in_range c).After-line_of i) (sine (goal.at.returns-then-is_in_range c).After-line_of i)))
 
-returns-3 : tie.Need-returns-3
-returns-3 c =
-    let s = c.before.before.before.before.before in
-    ended s.args.phases s.args.sum s.args.line c.before.before.enum_told.given.1 (sym c.before.is_in_range.ensures ∙ c.if1.false)
-
-pub with-record-spec : {M : Type 1} → statement M
-with-record-spec =
-    tie.close
-    (tie.spec
-    (λ c. search rules) (λ c. search rules) (λ c κs. search rules) (λ c κs. search rules) (λ c κs. search rules) (λ c κs. search rules)
-    line-of-requires with-line-requires returns returns-2 returns-3)
+pub returns-else-is_in_range : goal.returns-else-is_in_range
+returns-else-is_in_range c =
+    ended c.args.phases c.args.sum c.args.line c.in-Accepted.is (sym c.is_in_range.ensures ∙ c.if-is_in_range.false)
