@@ -1,13 +1,13 @@
--- What a float strictly between -2^52 and 2^52 is: no NaN, of an exponent's field below 1075, and its count at most 2^52 in size.
+-- What a float strictly between -2^52 and 2^52 is: of an exponent's field below 1075, and its count at most 2^52 in size.
 use mathlib.Core.Path.{◌≡◌, sym, subst}
-use mathlib.Core.Bool.{Bool, true, false, cond, not}
+use mathlib.Core.Bool.{Bool, true, false, cond}
 use Prim.Native.Nat.{ℕ, zero, suc, ◌+◌, ◌*◌, ◌/◌, ◌%◌, ◌^◌, ◌≤◌, ◌<◌}
 use native.Mathlib.Nat.{mul_right_comm, mul-le-mul_right, mul-lt-mul_of_pos_right, lt_of_mul-lt-mul_right, lt_of_le_of_lt, lt_of_lt_of_le, lt_irrefl, lt_of_not-le, le-add_right, le_of_eq, le_trans}
 use native.Mathlib.Omega.{arith}
 use lib.IntN.{ℤ, pos, nat_abs, ◌*ℤ◌, ◌-ℤ◌}
 use lib.Dec.{T, eqb, ltb→lt}
 use lib.Pow.{pow-add, pow_pos, pow_mono}
-use lib.Ieee.{Float, nan, inf, fin, binary64, up, down, lt, odd, of_fields, of_bits, to_bits, fits, is_nan, round}
+use lib.Ieee.{Float, nan, inf, fin, binary64, up, down, lt, odd, of_fields, of_bits, to_bits, fits, round}
 use lib.Ieee.Bits.{of_bits-to_bits}
 use lib.Ieee.Exact.{HasValue, odd_sign}
 use lib.Ieee.Fits.{and_l, and_r, down_pos}
@@ -18,12 +18,6 @@ use Rattle.whole.proofs.Signed.{abs_signed}
 use Rattle.limits.specs.Limits.{is_countable}
 use Rattle.doubles.specs.Doubles.{number, minus_number}
 use Rattle.count.specs.Count.{count}
-
-pub no_nan : (x : Float) → T (is_countable x) → T (not (is_nan x))
-unfolding lt round is_nan
-no_nan nan h = absurd h
-no_nan (inf s) h = tt
-no_nan (fin s m e) h = tt
 
 -- ---- the size
 below_edge : (s : Bool) (m : ℕ) (e : ℤ) → T (is_countable (fin s m e)) → m * up e < 2 ^ 52 * down e

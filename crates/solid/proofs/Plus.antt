@@ -5,9 +5,7 @@ use Prim.Native.Nat.{ℕ, zero, suc, ◌+◌, ◌^◌, ◌≤◌}
 use native.Mathlib.Omega.{arith}
 use lib.IntN.{ℤ, pos, nat_abs, ◌+ℤ◌, +ℤ_idl, +ℤ_idr}
 use lib.ListN.{length, get_or, set}
-use mir.Syntax.{w64}
-use mir.Val.{SFits}
-use Rattle.whole.proofs.Held.{Held, room, held, plus as sum}
+use Rattle.whole.proofs.Held.{Held, held, plus as sum}
 use Rattle.whole.proofs.Machine.{read}
 use Rattle.solid.specs.Solid.{plus}
 
@@ -33,9 +31,6 @@ module _ (x y : ℤ) (a : nat_abs x ≤ 2 ^ 53) (b : nat_abs y ≤ 2 ^ 33) where
       let count : Held x x (2 ^ 53) = record { reads = refl; most = a } in
       let small : Held y y (2 ^ 33) = record { reads = refl; most = b } in
       sum (held count (omega arith)) (held small (omega arith))
-
-  pub both_room : SFits w64 (read x +ℤ read y)
-  both_room = room both (omega arith)
 
   pub both_read : read (read x +ℤ read y) ≡ x +ℤ y
   both_read = (held both (omega arith)).reads

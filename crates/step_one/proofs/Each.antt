@@ -2,14 +2,13 @@
 use mathlib.Core.Path.{◌≡◌, refl, sym, ◌∙◌, subst}
 use mathlib.Core.Bool.{Bool, true, false, ◌&&◌}
 use mathlib.Core.List.{List, [], ◌∷◌, map}
-use Prim.Native.Nat.{ℕ, zero, suc, ◌+◌, ◌^◌, ◌≤◌, ◌<◌}
-use native.Mathlib.Nat.{not-suc-le-zero, le_of_suc-le-suc, zero-lt-suc, ne_of_lt}
+use Prim.Native.Nat.{ℕ, zero, suc, ◌^◌, ◌≤◌, ◌<◌}
+use native.Mathlib.Nat.{not-suc-le-zero, le_of_suc-le-suc, zero-lt-suc}
 use native.Mathlib.Omega.{arith}
-use borrow.Author.Count.{below_more}
 use lib.Dec.{T}
 use lib.IntN.{ℤ, pos, nat_abs}
-use lib.ListN.{length, get_or, set, length-map, get_or-map}
-use lib.Seq.{ext_get_or, get_or-set_same, get_or-set_other}
+use lib.ListN.{length, get_or, length-map, get_or-map}
+use lib.Seq.{ext_get_or}
 use lib.Ieee.{Float, nan}
 use lib.Ieee.Fits.{and_l, and_r}
 use Rattle.limits.specs.Limits.{is_countable}
@@ -43,12 +42,6 @@ unfolding counts_c count
 counted xs out e h =
     ext_get_or (pos 0) out (map count xs) (e ∙ sym (length-map xs count))
     (λ j l. h j (subst (λ (n : ℕ). j < n) e l) ∙ sym (get_or-map count xs j nan))
-
-pub stored : (xs : List Float) (out : List ℤ) (k : ℕ) (z : ℤ) → k < length out → z ≡ count (get_or xs k nan)
-    → ((j : ℕ) → j < k → get_or out j (pos 0) ≡ count (get_or xs j nan)) → (j : ℕ) → j < k + 1 → get_or (set out k z) j (pos 0) ≡ count (get_or xs j nan)
-stored xs out k z l e h = below_more (λ (j : ℕ). get_or (set out k z) j (pos 0) ≡ count (get_or xs j nan)) k
-    (λ j m. get_or-set_other out k j z (pos 0) (ne_of_lt m) ∙ h j m)
-    (get_or-set_same out k z (pos 0) l ∙ e)
 
 -- every count is at most 2^52 in size, and what stands past the end is 0
 pub counts_c_small : (xs : List Float) → T (all_countable xs) → (k : ℕ) → nat_abs (get_or (counts_c xs) k (pos 0)) ≤ 2 ^ 52

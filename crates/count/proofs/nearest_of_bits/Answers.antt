@@ -37,10 +37,13 @@ module _ (c : After-halved-size) where
 
 pub returns-then-b-lt-SIGN : goal.returns-then-b-lt-SIGN
 unfolding signed
-returns-then-b-lt-SIGN c = held (goal.at.returns-then-b-lt-SIGN c).After-halved-size ∙ halves (goal.at.returns-then-b-lt-SIGN c).After-halved-size ∙ sym (count-is (goal.at.returns-then-b-lt-SIGN c).After-halved-size false (lt-leb (2 ^ 63) (b (goal.at.returns-then-b-lt-SIGN c).After-halved-size) (omega arith)))
+returns-then-b-lt-SIGN c =
+    let a = (goal.at.returns-then-b-lt-SIGN c).After-halved-size in
+    held a ∙ halves a ∙ sym (count-is a false (lt-leb (2 ^ 63) (b a) (omega arith)))
 
 pub returns-else-b-lt-SIGN : goal.returns-else-b-lt-SIGN
 unfolding signed
 returns-else-b-lt-SIGN c =
-    minus_read w64 (of_z w64 c.halved-size.result) (held (goal.at.returns-else-b-lt-SIGN c).After-halved-size) (omega (arith, c.halved-size.ensures.1)) ∙ ap neg_ℤ (halves (goal.at.returns-else-b-lt-SIGN c).After-halved-size)
-    ∙ sym (count-is (goal.at.returns-else-b-lt-SIGN c).After-halved-size true (le-leb (2 ^ 63) (b (goal.at.returns-else-b-lt-SIGN c).After-halved-size) (omega arith)))
+    let a = (goal.at.returns-else-b-lt-SIGN c).After-halved-size in
+    minus_read w64 (of_z w64 c.halved-size.result) (held a) (omega (arith, c.halved-size.ensures.1)) ∙ ap neg_ℤ (halves a)
+    ∙ sym (count-is a true (le-leb (2 ^ 63) (b a) (omega arith)))

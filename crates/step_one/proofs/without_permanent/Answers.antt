@@ -29,8 +29,8 @@ module _ (c : After-permanent_part) where
   less = fits_abs w64 (c20 -ℤ permanent_part c.args.love) (omega (arith, less-small c.args.love c.args.by c.requires))
 
 pub overflow_sub-out : goal.overflow_sub-out
-overflow_sub-out c = rw (to_z-of_z (c20-fits (goal.at.overflow_sub-out c).After-permanent_part), part-is (goal.at.overflow_sub-out c).After-permanent_part) (less (goal.at.overflow_sub-out c).After-permanent_part)
+overflow_sub-out c = let p = (goal.at.overflow_sub-out c).After-permanent_part in rw (to_z-of_z (c20-fits p), part-is p) (less p)
 
 pub returns : goal.returns
 unfolding without_permanent
-returns c = rw (to_z-of_z (c20-fits (goal.at.returns c).After-permanent_part), part-is (goal.at.returns c).After-permanent_part, to_z-of_z (less (goal.at.returns c).After-permanent_part)) refl
+returns c = let p = (goal.at.returns c).After-permanent_part in rw (to_z-of_z (c20-fits p), part-is p, to_z-of_z (less p)) refl
