@@ -8,8 +8,8 @@ ghost use Rattle.text.specs.Text.{decimal, fixed_point, sign, padded};
 
 // Puts a word at the end of its columns.
 pub fn put_word(out: &mut [u8], at: usize, columns: usize, word: &[u8]) -> usize
-    requires fact_1 { at + columns ≤ length out.old }
-    requires fact_2 { length word.now ≤ columns }
+    requires room { at + columns ≤ length out.old }
+    requires within { length word.now ≤ columns }
     ensures { Put out.old at (padded columns word.now) out.new result }
 {
     let next = text::put_spaces(out, at, columns - word.len());
@@ -18,8 +18,8 @@ pub fn put_word(out: &mut [u8], at: usize, columns: usize, word: &[u8]) -> usize
 
 // Puts a whole number at the end of its columns.
 pub fn put_whole(out: &mut [u8], at: usize, columns: usize, n: u64) -> usize
-    requires fact_1 { at + columns ≤ length out.old }
-    requires fact_2 { length (decimal n) ≤ columns }
+    requires room { at + columns ≤ length out.old }
+    requires within { length (decimal n) ≤ columns }
     ensures { Put out.old at (padded columns (decimal n)) out.new result }
 {
     let next = text::put_spaces(out, at, columns - text::digits_in(n));
@@ -40,8 +40,8 @@ fn put_sign(out: &mut [u8], at: usize, negative: bool) -> usize
 
 // Puts n divided by the scale, 10^decimals, with that many decimals.
 fn put_point(out: &mut [u8], at: usize, decimals: usize, scale: u64, n: u64) -> usize
-    requires fact_1 { at + length (fixed_point decimals n) ≤ length out.old }
-    requires fact_2 { scale ≡ 10 ^ decimals }
+    requires room { at + length (fixed_point decimals n) ≤ length out.old }
+    requires scaled { scale ≡ 10 ^ decimals }
     ensures { Put out.old at (fixed_point decimals n) out.new result }
 {
     let dot = text::put_decimal(out, at, n / scale);
@@ -66,9 +66,9 @@ pub fn put_number(
     scale: u64,
     n: u64,
 ) -> usize
-    requires fact_1 { at + columns ≤ length out.old }
-    requires fact_2 { length (sign negative ++ fixed_point decimals n) ≤ columns }
-    requires fact_3 { scale ≡ 10 ^ decimals }
+    requires room { at + columns ≤ length out.old }
+    requires within { length (sign negative ++ fixed_point decimals n) ≤ columns }
+    requires scaled { scale ≡ 10 ^ decimals }
     ensures { Put out.old at (padded columns (sign negative ++ fixed_point decimals n)) out.new result }
 {
     let digits = sign_columns(negative) + text::digits_in(n / scale) + 1 + decimals;

@@ -14,8 +14,8 @@ const LEAD: u64 = 4503599627370496;
 
 // q / 2^(h + 1) to the nearest whole number, a half up.
 fn halved(q: u64, h: u64) -> i64
-    requires fact_1 { q < 2 ^ 53 }
-    requires fact_2 { h < 64 }
+    requires digits { q < 2 ^ 53 }
+    requires shift { h < 64 }
     ensures { (result ≡ pos ((q / 2 ^ h + 1) / 2)) × (nat_abs result ≤ 2 ^ 52) }
 {
     (((q >> h) + 1) / 2) as i64

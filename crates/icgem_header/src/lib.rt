@@ -150,8 +150,8 @@ fn find_line(text: &[u8], key: &[u8]) -> Found
 
 // The second word of the line from a place up to its end.
 fn second_word(text: &[u8], at: usize, end: usize) -> Span
-    requires fact_1 { at ≤ end }
-    requires fact_2 { end ≤ length text.now }
+    requires ordered { at ≤ end }
+    requires within { end ≤ length text.now }
     ensures { SecondWord text.now at end result.from result.to }
 {
     let line = &text[at..end];
@@ -205,8 +205,8 @@ fn constant_entry(entries: &[u8]) -> Entry
 
 // A constant: -0 is taken too.
 fn constant_of(word: &[u8], places: usize) -> Number
-    requires fact_1 { places ≤ 15 }
-    requires fact_2 { length word.now ≤ 131072 }
+    requires places_most { places ≤ 15 }
+    requires word_most { length word.now ≤ 131072 }
     ensures { NumberRead places word.now result.ok result.value }
 {
     let n = icgem_decimal::in_units(word, places);

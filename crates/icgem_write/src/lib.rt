@@ -29,8 +29,8 @@ const ONE: u64 = 1000000000000000;
 
 // Puts an entry of the header whose value is a word.
 fn put_entry(out: &mut [u8], at: usize, keyword: &[u8], value: &[u8]) -> usize
-    requires fact_1 { at + 54 ≤ length out.old }
-    requires fact_2 { length keyword.now + length value.now ≤ 53 }
+    requires room { at + 54 ≤ length out.old }
+    requires within { length keyword.now + length value.now ≤ 53 }
     ensures { PutLines 1 out.old at (entry keyword.now value.now) out.new result }
 {
     let next = text::put_word(out, at, keyword);
@@ -40,8 +40,8 @@ fn put_entry(out: &mut [u8], at: usize, keyword: &[u8], value: &[u8]) -> usize
 
 // Puts an entry whose value is a whole number.
 fn put_whole_entry(out: &mut [u8], at: usize, keyword: &[u8], n: u64) -> usize
-    requires fact_1 { at + 54 ≤ length out.old }
-    requires fact_2 { length keyword.now + 20 ≤ 53 }
+    requires room { at + 54 ≤ length out.old }
+    requires within { length keyword.now + 20 ≤ 53 }
     ensures { PutLines 1 out.old at (entry keyword.now (decimal n)) out.new result }
 {
     let next = text::put_word(out, at, keyword);
@@ -125,8 +125,8 @@ fn put_header(out: &mut [u8], n: u32, constant: u64, radius: u64, system: Perman
 
 // Puts a coefficient at the end of its columns.
 fn put_coefficient(out: &mut [u8], at: usize, count: i64) -> usize
-    requires fact_1 { at + 22 ≤ length out.old }
-    requires fact_2 { nat_abs count ≤ 2 ^ 60 }
+    requires room { at + 22 ≤ length out.old }
+    requires small { nat_abs count ≤ 2 ^ 60 }
     ensures { Put out.old at (padded 22 (coefficient count)) out.new result }
 {
     columns::put_number(out, at, 22, count < 0, 15, ONE, whole::size_of(count))
@@ -134,11 +134,11 @@ fn put_coefficient(out: &mut [u8], at: usize, count: i64) -> usize
 
 // Puts the line of a place.
 fn put_place(out: &mut [u8], at: usize, n: u32, m: u32, c: i64, s: i64) -> usize
-    requires fact_1 { at + 54 ≤ length out.old }
-    requires fact_2 { n ≤ 60 }
-    requires fact_3 { m ≤ n }
-    requires fact_4 { nat_abs c ≤ 2 ^ 60 }
-    requires fact_5 { nat_abs s ≤ 2 ^ 60 }
+    requires room { at + 54 ≤ length out.old }
+    requires degree { n ≤ 60 }
+    requires order { m ≤ n }
+    requires c_small { nat_abs c ≤ 2 ^ 60 }
+    requires s_small { nat_abs s ≤ 2 ^ 60 }
     ensures { PutLines 1 out.old at (place_line n m c s) out.new result }
 {
     let next = text::put_word(out, at, b"gfc");
@@ -151,10 +151,10 @@ fn put_place(out: &mut [u8], at: usize, n: u32, m: u32, c: i64, s: i64) -> usize
 
 // Puts the lines of a degree.
 fn put_degree(out: &mut [u8], at: usize, n: u32, c: &[i64], s: &[i64]) -> usize
-    requires fact_1 { at + 54 * (n + 1) ≤ length out.old }
-    requires fact_2 { n ≤ 60 }
-    requires fact_3 { Has n c.now }
-    requires fact_4 { Has n s.now }
+    requires room { at + 54 * (n + 1) ≤ length out.old }
+    requires degree { n ≤ 60 }
+    requires has_c { Has n c.now }
+    requires has_s { Has n s.now }
     ensures { PutLines (n + 1) out.old at (degree_lines c.now s.now n) out.new result }
 {
     let first = (n as usize) * (n as usize + 1) / 2;
@@ -170,10 +170,10 @@ fn put_degree(out: &mut [u8], at: usize, n: u32, c: &[i64], s: &[i64]) -> usize
 
 // Puts the lines of all degrees up to n.
 fn put_degrees(out: &mut [u8], at: usize, n: u32, c: &[i64], s: &[i64]) -> usize
-    requires fact_1 { at + 54 * size n ≤ length out.old }
-    requires fact_2 { n ≤ 60 }
-    requires fact_3 { Has n c.now }
-    requires fact_4 { Has n s.now }
+    requires room { at + 54 * size n ≤ length out.old }
+    requires degree { n ≤ 60 }
+    requires has_c { Has n c.now }
+    requires has_s { Has n s.now }
     ensures { PutLines (size n) out.old at (joined (degree_lines c.now s.now) (suc n)) out.new result }
 {
     let mut next = at;
@@ -195,10 +195,10 @@ pub fn put_field(
     radius: u64,
     system: PermanentSystem,
 ) -> usize
-    requires fact_1 { 54 * (9 + size n) ≤ length out.old }
-    requires fact_2 { n ≤ 60 }
-    requires fact_3 { Has n c.now }
-    requires fact_4 { Has n s.now }
+    requires room { 54 * (9 + size n) ≤ length out.old }
+    requires degree { n ≤ 60 }
+    requires has_c { Has n c.now }
+    requires has_s { Has n s.now }
     ensures { PutLines (9 + size n) out.old 0 (file_text n c.now s.now constant radius system) out.new result }
 {
     let at = put_header(out, n, constant, radius, system);

@@ -15,7 +15,7 @@ sized : (s : Start)
     → length (sign s.args.negative ++ fixed_point s.args.decimals s.args.n)
     ≡ length (sign s.args.negative) + length (decimal (s.args.n / s.args.scale)) + 1 + s.args.decimals
 sized s =
-    rw s.requires.fact_3
+    rw s.requires.scaled
     (omega (arith, length-append (sign s.args.negative) (fixed_point s.args.decimals s.args.n), fixed_length s.args.decimals s.args.n))
 
 -- the columns that are counted
@@ -25,7 +25,7 @@ counted : (d : After-digits_in)
 counted d = rw (d.sign_columns.ensures, d.digits_in.ensures) (sym (sized (goal.at.overflow_add-digits d).Start))
 
 pub nonzero_div-n : goal.nonzero_div-n
-nonzero_div-n c = omega (arith, c.requires.fact_3, one-le-pow c.args.decimals 10 (omega arith))
+nonzero_div-n c = omega (arith, c.requires.scaled, one-le-pow c.args.decimals 10 (omega arith))
 
 pub overflow_add-digits : goal.overflow_add-digits
 overflow_add-digits c = omega (arith, counted c)
@@ -43,8 +43,8 @@ pub put_point-requires : goal.put_point-requires
 put_point-requires c =
     let s = (goal.at.put_point-requires c).Start in
     record {
-      fact_1 = omega (arith, counted (goal.at.put_point-requires c).After-digits_in, sized s, put_length c.put_spaces-next.ensures, c.put_spaces-next.ensures.next_is, put_length c.put_sign-next.ensures, c.put_sign-next.ensures.next_is, length-append (sign s.args.negative) (fixed_point s.args.decimals s.args.n), spaces_length (s.args.columns - (c.sign_columns.result + c.digits_in.result + 1 + s.args.decimals)));
-      fact_2 = c.requires.fact_3;
+      room = omega (arith, counted (goal.at.put_point-requires c).After-digits_in, sized s, put_length c.put_spaces-next.ensures, c.put_spaces-next.ensures.next_is, put_length c.put_sign-next.ensures, c.put_sign-next.ensures.next_is, length-append (sign s.args.negative) (fixed_point s.args.decimals s.args.n), spaces_length (s.args.columns - (c.sign_columns.result + c.digits_in.result + 1 + s.args.decimals)));
+      scaled = c.requires.scaled;
     }
 
 pub returns : goal.returns

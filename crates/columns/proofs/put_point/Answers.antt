@@ -11,10 +11,10 @@ use Rattle.columns.proofs.put_point.Goals as goal
 use Rattle.columns.proofs.put_point.Goals.{Start}
 
 sized : (s : Start) → length (fixed_point s.args.decimals s.args.n) ≡ length (decimal (s.args.n / s.args.scale)) + 1 + s.args.decimals
-sized s = rw s.requires.fact_2 (fixed_length s.args.decimals s.args.n)
+sized s = rw s.requires.scaled (fixed_length s.args.decimals s.args.n)
 
 pub nonzero_div-n : goal.nonzero_div-n
-nonzero_div-n c = omega (arith, c.requires.fact_2, one-le-pow c.args.decimals 10 (omega arith))
+nonzero_div-n c = omega (arith, c.requires.scaled, one-le-pow c.args.decimals 10 (omega arith))
 
 pub put_decimal-dot-requires : goal.put_decimal-dot-requires
 put_decimal-dot-requires c = omega (arith, sized (goal.at.put_decimal-dot-requires c).Start)
@@ -30,4 +30,4 @@ put_last-requires c =
 pub returns : goal.returns
 unfolding fixed_point ascii
 returns c =
-    rw (← c.requires.fact_2) (put_then (put_then c.put_decimal-dot.ensures c.put_byte-next.ensures) c.put_last.ensures)
+    rw (← c.requires.scaled) (put_then (put_then c.put_decimal-dot.ensures c.put_byte-next.ensures) c.put_last.ensures)

@@ -4,4 +4,4 @@ use Rattle.icgem_header.proofs.second_word.Goals as goal
 
 pub returns : goal.returns
 returns c =
-    second_word c.requires.fact_1 c.requires.fact_2 c.next_word-first.ensures c.next_word-second.ensures
+    second_word c.requires.ordered c.requires.within c.next_word-first.ensures c.next_word-second.ensures

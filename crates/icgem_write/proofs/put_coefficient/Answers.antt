@@ -17,9 +17,9 @@ size d = d.size_of.ensures ∙ ap nat_abs (to_z-of_z d.ranges.count)
 
 pub put_number-requires : goal.put_number-requires
 put_number-requires c = record {
-  fact_1 = search rules;
-  fact_2 = rw (size (goal.at.put_number-requires c).After-size_of) (omega (arith, entry_most (lt_z (to_z w64 (of_z w64 c.args.count)) (pos 0)) (nat_abs c.args.count) (omega arith)));
-  fact_3 = refl;
+  room = search rules;
+  within = rw (size (goal.at.put_number-requires c).After-size_of) (omega (arith, entry_most (lt_z (to_z w64 (of_z w64 c.args.count)) (pos 0)) (nat_abs c.args.count) (omega arith)));
+  scaled = refl;
 }
 
 pub returns : goal.returns

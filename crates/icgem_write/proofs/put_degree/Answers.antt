@@ -33,20 +33,20 @@ pub loop-m-init : goal.loop-m-init
 loop-m-init c = (omega arith, no_lines _ _ _)
 
 pub bounds-c-place : goal.bounds-c-place
-bounds-c-place c = inside (goal.at.bounds-c-place c).Start c.loop-m.m (omega arith) c.requires.fact_3
+bounds-c-place c = inside (goal.at.bounds-c-place c).Start c.loop-m.m (omega arith) c.requires.has_c
 
 pub bounds-s-place : goal.bounds-s-place
-bounds-s-place c = inside (goal.at.bounds-s-place c).Start c.loop-m.m (omega arith) c.requires.fact_4
+bounds-s-place c = inside (goal.at.bounds-s-place c).Start c.loop-m.m (omega arith) c.requires.has_s
 
 pub put_place-next-requires : goal.put_place-next-requires
 put_place-next-requires c =
     let k = c.args.n * (c.args.n + 1) / 2 + c.loop-m.m in
     record {
-      fact_1 = omega (arith, c.loop-m.invariant.1);
-      fact_2 = c.requires.fact_2;
-      fact_3 = omega arith;
-      fact_4 = entry-small c.requires.fact_3 k;
-      fact_5 = entry-small c.requires.fact_4 k;
+      room = omega (arith, c.loop-m.invariant.1);
+      degree = c.requires.degree;
+      order = omega arith;
+      c_small = entry-small c.requires.has_c k;
+      s_small = entry-small c.requires.has_s k;
     }
 
 pub loop-m-preserved : goal.loop-m-preserved
@@ -54,7 +54,7 @@ loop-m-preserved c =
     let m = c.loop-m.m in (
       omega arith,
       more_lines _ m c.loop-m.invariant.1
-          (rw (entry-same c.requires.fact_3 (c.args.n * (c.args.n + 1) / 2 + m), entry-same c.requires.fact_4 (c.args.n * (c.args.n + 1) / 2 + m), place_is c.args.n m)
+          (rw (entry-same c.requires.has_c (c.args.n * (c.args.n + 1) / 2 + m), entry-same c.requires.has_s (c.args.n * (c.args.n + 1) / 2 + m), place_is c.args.n m)
           at c.put_place-next.ensures),
     )
 

@@ -14,10 +14,10 @@ put_degree-next-requires c =
     let d = c.loop-degree.degree in
     let h : d ≤ c.args.n = omega arith in
     record {
-      fact_1 = omega (arith, c.loop-degree.invariant.1, below_next d, below_most c.args.n d h);
-      fact_2 = omega arith;
-      fact_3 = has_below d h c.requires.fact_3;
-      fact_4 = has_below d h c.requires.fact_4;
+      room = omega (arith, c.loop-degree.invariant.1, below_next d, below_most c.args.n d h);
+      degree = omega arith;
+      has_c = has_below d h c.requires.has_c;
+      has_s = has_below d h c.requires.has_s;
     }
 
 pub loop-degree-preserved : goal.loop-degree-preserved

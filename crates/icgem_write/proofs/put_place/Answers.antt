@@ -33,7 +33,7 @@ reached-6 d = reach 3 3 (decimal d.args.n) (after-3 d.put_word-next.ensures) d.p
 
 reached-9 : (d : After-put_whole-next-2) → Reached d.args.out.now d.args.at 9 d.put_whole-next-2.new.out d.put_whole-next-2.result
 reached-9 d =
-    after-9 d.args.n d.args.m d.requires.fact_2 d.requires.fact_3 d.put_word-next.ensures d.put_whole-next.ensures d.put_whole-next-2.ensures
+    after-9 d.args.n d.args.m d.requires.degree d.requires.order d.put_word-next.ensures d.put_whole-next.ensures d.put_whole-next-2.ensures
 
 -- a coefficient comes back from the machine as it is
 c-put : (d : After-put_coefficient-next) → Put d.put_whole-next-2.new.out d.put_whole-next-2.result (padded 22 (coefficient d.args.c)) d.put_coefficient-next.new.out d.put_coefficient-next.result
@@ -41,39 +41,39 @@ c-put d = rw (to_z-of_z d.ranges.c) at d.put_coefficient-next.ensures
 
 reached-31 : (d : After-put_coefficient-next) → Reached d.args.out.now d.args.at 31 d.put_coefficient-next.new.out d.put_coefficient-next.result
 reached-31 d =
-    after-31 d.args.n d.args.m d.requires.fact_2 d.requires.fact_3 d.put_word-next.ensures d.put_whole-next.ensures d.put_whole-next-2.ensures
-    d.args.c d.requires.fact_4 (c-put d)
+    after-31 d.args.n d.args.m d.requires.degree d.requires.order d.put_word-next.ensures d.put_whole-next.ensures d.put_whole-next-2.ensures
+    d.args.c d.requires.c_small (c-put d)
 
 s-put : (d : After-put_coefficient-next-2) → Put d.put_coefficient-next.new.out d.put_coefficient-next.result (padded 22 (coefficient d.args.s)) d.put_coefficient-next-2.new.out d.put_coefficient-next-2.result
 s-put d = rw (to_z-of_z d.ranges.s) at d.put_coefficient-next-2.ensures
 
 reached-53 : (d : After-put_coefficient-next-2) → Reached d.args.out.now d.args.at 53 d.put_coefficient-next-2.new.out d.put_coefficient-next-2.result
 reached-53 d =
-    after-53 d.args.n d.args.m d.requires.fact_2 d.requires.fact_3 d.put_word-next.ensures d.put_whole-next.ensures d.put_whole-next-2.ensures
-    d.args.c d.requires.fact_4 (rw (to_z-of_z d.ranges.c) at d.put_coefficient-next.ensures) d.args.s d.requires.fact_5 (s-put d)
+    after-53 d.args.n d.args.m d.requires.degree d.requires.order d.put_word-next.ensures d.put_whole-next.ensures d.put_whole-next-2.ensures
+    d.args.c d.requires.c_small (rw (to_z-of_z d.ranges.c) at d.put_coefficient-next.ensures) d.args.s d.requires.s_small (s-put d)
 
 pub put_whole-next-requires : goal.put_whole-next-requires
 put_whole-next-requires c = record {
-  fact_1 = omega (arith, after-3 c.put_word-next.ensures);
-  fact_2 = order_most c.args.n (omega arith);
+  room = omega (arith, after-3 c.put_word-next.ensures);
+  within = order_most c.args.n (omega arith);
 }
 
 pub put_whole-next-requires-2 : goal.put_whole-next-requires-2
 put_whole-next-requires-2 c = record {
-  fact_1 = omega (arith, reached-6 (goal.at.put_whole-next-requires-2 c).After-put_whole-next);
-  fact_2 = order_most c.args.m (omega arith);
+  room = omega (arith, reached-6 (goal.at.put_whole-next-requires-2 c).After-put_whole-next);
+  within = order_most c.args.m (omega arith);
 }
 
 pub put_coefficient-next-requires : goal.put_coefficient-next-requires
 put_coefficient-next-requires c = record {
-  fact_1 = omega (arith, reached-9 (goal.at.put_coefficient-next-requires c).After-put_whole-next-2);
-  fact_2 = rw (to_z-of_z c.ranges.c) c.requires.fact_4;
+  room = omega (arith, reached-9 (goal.at.put_coefficient-next-requires c).After-put_whole-next-2);
+  small = rw (to_z-of_z c.ranges.c) c.requires.c_small;
 }
 
 pub put_coefficient-next-requires-2 : goal.put_coefficient-next-requires-2
 put_coefficient-next-requires-2 c = record {
-  fact_1 = omega (arith, reached-31 (goal.at.put_coefficient-next-requires-2 c).After-put_coefficient-next);
-  fact_2 = rw (to_z-of_z c.ranges.s) c.requires.fact_5;
+  room = omega (arith, reached-31 (goal.at.put_coefficient-next-requires-2 c).After-put_coefficient-next);
+  small = rw (to_z-of_z c.ranges.s) c.requires.s_small;
 }
 
 pub put_byte-requires : goal.put_byte-requires

@@ -8,7 +8,7 @@ use Rattle.icgem_write.proofs.put_radius.Goals as goal
 
 pub put_number-next-requires : goal.put_number-next-requires
 unfolding sign
-put_number-next-requires c = record { fact_1 = search rules; fact_2 = omega (arith, metres c.args.radius (omega arith)); fact_3 = refl }
+put_number-next-requires c = record { room = search rules; within = omega (arith, metres c.args.radius (omega arith)); scaled = refl }
 
 pub put_byte-requires : goal.put_byte-requires
 unfolding sign ascii

@@ -6,7 +6,7 @@ use Rattle.std.proofs.Common.{rules}
 use Rattle.icgem_write.proofs.put_whole_entry.Goals as goal
 
 pub put_whole-next-requires : goal.put_whole-next-requires
-put_whole-next-requires c = record { fact_1 = search rules; fact_2 = omega (arith, word_most c.args.n (omega arith)) }
+put_whole-next-requires c = record { room = search rules; within = omega (arith, word_most c.args.n (omega arith)) }
 
 pub put_byte-requires : goal.put_byte-requires
 put_byte-requires c =

@@ -38,7 +38,7 @@ bytes_of-requires c = (field (goal.at.bytes_of-requires c).In-Accepted).largest
 pub put_field-requires : goal.put_field-requires
 put_field-requires c =
     let e = (goal.at.put_field-requires c).In-Accepted in
-    record { fact_1 = search rules; fact_2 = (field e).largest; fact_3 = has-c e; fact_4 = has-s e }
+    record { room = search rules; degree = (field e).largest; has_c = has-c e; has_s = has-s e }
 
 pub returns-then-out-bytes_of : goal.returns-then-out-bytes_of
 returns-then-out-bytes_of c = writes_short _ _ _ _ _ _ _ (passed (goal.at.returns-then-out-bytes_of c).In-Accepted) (omega (arith, long (goal.at.returns-then-out-bytes_of c).In-Accepted))
