@@ -16,9 +16,9 @@ use Rattle.refusals.specs.Outcome.{first_of}
 use Rattle.refusals.specs.Told.Told.{accepted, refused}
 use Rattle.refusals.proofs.Outcomes.{first_none, first_kept}
 use Rattle.icgem_file.specs.declared.FileHead.{FileHead}
-use Rattle.icgem_file.specs.Header.{Line, data_of, degree_of}
+use Rattle.icgem_file.specs.Header.{Line, data_of}
 use Rattle.icgem_file.specs.Data.{c_in, s_in, filled}
-use Rattle.icgem_file.specs.File.{file_refusal, read_refusal, file_list, head_said, told_head, file_head, read_file}
+use Rattle.icgem_file.specs.File.{file_refusal, read_refusal, file_list, told_head, file_head, read_file}
 use Rattle.icgem_file.proofs.Lists.{filled_take, take_replicate}
 use Rattle.icgem_words.specs.Words.{worded}
 use Rattle.icgem_read.specs.Inner.{PassedFile}

@@ -1,5 +1,5 @@
 -- A file whose header is as it should be, from its data and its system.
-use mathlib.Core.Bool.{Bool, true, false, cond, false≢true, ◌&&◌}
+use mathlib.Core.Bool.{Bool, true, false, cond, ◌&&◌}
 use mathlib.Core.Path.{◌≡◌, refl, sym, ap, ap₂, ◌∙◌}
 use mathlib.Core.List.{List}
 use Prim.Native.Nat.{ℕ, ◌≤◌}
@@ -10,20 +10,20 @@ use Rattle.whole.proofs.Tests.{and_left}
 use Rattle.choices.specs.declared.PermanentSystem.{PermanentSystem}
 use Rattle.limits.specs.Limits.{is_degree}
 use Rattle.refusals.specs.Outcome.{first_of}
-use Rattle.refusals.specs.Told.{Told, told_number, next}
+use Rattle.refusals.specs.Told.{told_number}
 use Rattle.refusals.specs.Told.Told.{accepted}
 use Rattle.refusals.proofs.Outcomes.{first_none}
 use Rattle.icgem_decimal.specs.Decimal.{is_whole, value_of}
 use Rattle.icgem_file.specs.declared.FileHead.{FileHead}
-use Rattle.icgem_file.specs.Header.{Line, data_of, degree_of, degree_word, constant_of, radius_of, system_word}
+use Rattle.icgem_file.specs.Header.{Line, data_of, degree_of, system_word}
 use Rattle.icgem_file.specs.Data.{data_formed, repeated, all_in_range}
 use Rattle.icgem_file.specs.File.{system_said, file_refusal, head_said}
 use Rattle.icgem_header.specs.declared.System.{System}
 use Rattle.icgem_header.specs.Read.{HeaderRead, tells_system}
 use Rattle.icgem_words.specs.Inner.{part}
 use Rattle.icgem_words.specs.Words.{worded}
-use Rattle.icgem_read.specs.Inner.{DegreeRead, data_refusal, Filled, DataRead, PassedFile}
-use Rattle.icgem_read.proofs.Refusals.{file_long, file_headless, file_headed}
+use Rattle.icgem_read.specs.Inner.{DegreeRead, data_refusal, DataRead, PassedFile}
+use Rattle.icgem_read.proofs.Refusals.{file_headed}
 
 -- data that nothing refuses have a degree
 fine_degree : (n : ℕ) (lines : List Line) → data_refusal n lines ≡ 0 → is_degree n ≡ true

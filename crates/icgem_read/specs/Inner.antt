@@ -1,5 +1,5 @@
 -- Inner contracts, no words of 02: what the functions that read a file say to one another.
-use Rattle.std.specs.Prelude.{Bool, true, cond, ◌&&◌, List, ◌≡◌, ℕ, ◌≤◌, ℤ, length}
+use Rattle.std.specs.Prelude.{true, cond, ◌&&◌, List, ◌≡◌, ℕ, ℤ, length}
 use Rattle.limits.specs.Limits.{is_degree}
 use Rattle.refusals.specs.Outcome.{first_of}
 use Rattle.refusals.specs.Told.Told.{accepted}
