@@ -175,10 +175,10 @@ fn malformed() -> Passed
 
 // Goes through a file, and puts its counts into two lists.
 fn pass(text: &[u8], starts: &mut [u32], spare: &mut [u32], c: &mut [i64], s: &mut [i64]) -> Passed
-    requires fact_1 { 16384 ≤ length starts.old }
-    requires fact_2 { length starts.old ≤ length spare.old }
-    requires fact_3 { length c.old ≤ 1891 }
-    requires fact_4 { length s.old ≤ 1891 }
+    requires starts_room { 16384 ≤ length starts.old }
+    requires spare_room { length starts.old ≤ length spare.old }
+    requires c_room { length c.old ≤ 1891 }
+    requires s_room { length s.old ≤ 1891 }
     ensures { PassedFile text.now c.old s.old (answer_number result.answer) result.head c.new s.new }
 {
     if text.len() <= LONGEST {
