@@ -21,7 +21,7 @@ use Rattle.hour.specs.Hour.{HourCall, reached}
 use Rattle.ocean_bound.specs.Exact.{AtMostNineCounts}
 use Rattle.ocean_bound.proofs.Bound.{close_to_exact}
 use Rattle.solid.specs.Solid.{counts_of}
-use Rattle.step_one.specs.StepOne.{corrections as bodyCorrections}
+use Rattle.step_one.specs.StepOne.{corrections as body_corrections}
 use Rattle.step_two.specs.StepTwo.{corrections}
 use Rattle.step_two_bound.specs.Exact.{LessThanOneCount, exact_sum as line_sum}
 use Rattle.step_two_bound.proofs.Bound.{step_two_close}
@@ -52,10 +52,10 @@ lines_near phases love selection C22 = (step_two_close phases love selection).c2
 lines_near phases love selection S22 = (step_two_close phases love selection).s22
 
 pub solid-tide : (n : ℕ) (c s : List ℤ) (moon sun : Body) (love : LoveModel) (calls : List HourCall) (selection : ℕ) → solid_tide_refusal n c s moon sun love selection ≡ 0 → (k : Coefficient)
-    → LessThanOneCount (gain_of c s (solid_tide n c s moon sun love (reached calls) selection) k -ℤ of_bodies (counts_of (bodyCorrections moon sun love)) k) (line_sum (reached calls).phases love selection k)
+    → LessThanOneCount (gain_of c s (solid_tide n c s moon sun love (reached calls) selection) k -ℤ of_bodies (counts_of (body_corrections moon sun love)) k) (line_sum (reached calls).phases love selection k)
 solid-tide n c s moon sun love calls selection passed k =
     let phases = (reached calls).phases in
-    by_part LessThanOneCount (entry_of c s k) _ (of_bodies (counts_of (bodyCorrections moon sun love)) k) (of_lines (corrections phases love selection) k) (line_sum phases love selection k)
+    by_part LessThanOneCount (entry_of c s k) _ (of_bodies (counts_of (body_corrections moon sun love)) k) (of_lines (corrections phases love selection) k) (line_sum phases love selection k)
     ((solid_entries n c s moon sun love calls selection passed).degree_two k) (lines_near phases love selection k)
 
 module _ (n : ℕ) (c s : List ℤ) (lines : List OwnLine) (phases : Phases) (passed : own_lines_refusal n c s lines ≡ 0) where

@@ -19,7 +19,7 @@ use Rattle.field.specs.Added.{corrected, added, added_at}
 use Rattle.step_one.proofs.Worked.{moon, sun, moon_and_sun}
 use Rattle.step_one.specs.StepOne.{places}
 use Rattle.pole.specs.declared.Corrections.{Corrections as Pole}
-use Rattle.pole.specs.Pole.{offsets_refusal, exact_c21, exact_s21, corrections as poleCorrections}
+use Rattle.pole.specs.Pole.{offsets_refusal, exact_c21, exact_s21, corrections as pole_corrections}
 use Rattle.profiles.specs.Profiles.{all_lines}
 use Rattle.profiles.proofs.Laws.{profiles}
 use Rattle.selection.specs.Selection.{selection_refusal, names, selected, selection_of}
@@ -75,8 +75,8 @@ abbrev pole_counts : LoveModel → Pole
 pole_counts Elastic = record { c21 = neg_ℤ (pos 59340); s21 = pos 379260 }
 pole_counts Anelastic = record { c21 = neg_ℤ (pos 66447); s21 = pos 395618 }
 
-at_those_angles : (love : LoveModel) → poleCorrections (pos 46000) (pos 294000) love ≡ pole_counts love
-unfolding poleCorrections exact_c21 exact_s21 nearest
+at_those_angles : (love : LoveModel) → pole_corrections (pos 46000) (pos 294000) love ≡ pole_counts love
+unfolding pole_corrections exact_c21 exact_s21 nearest
 at_those_angles Elastic = refl
 at_those_angles Anelastic = refl
 

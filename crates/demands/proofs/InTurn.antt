@@ -21,8 +21,8 @@ use Rattle.refusals.proofs.Outcomes.{outcome_number, first_none, first_passed}
 use Rattle.selection.specs.Selection.{selection_refusal}
 use Rattle.solid.specs.Solid.{plus, line_counts, with_lines, counts_of, solid_counts}
 use Rattle.solid.proofs.Plus.{plus_at}
-use Rattle.step_one.specs.StepOne.{Counts, places, corrections as bodyCorrections}
-use Rattle.step_two.specs.StepTwo.{corrections as lineCorrections}
+use Rattle.step_one.specs.StepOne.{Counts, places, corrections as body_corrections}
+use Rattle.step_two.specs.StepTwo.{corrections as line_corrections}
 use Rattle.surfgimlet.specs.Calls.{places_c, places_s, five_corrected, solid_tide_refusal, solid_by}
 use Rattle.demands.specs.Demands.{at}
 use Rattle.demands.specs.InTurn.{step_one_call, step_two_call, solid_tide_at}
@@ -98,7 +98,7 @@ module _ (n : ℕ) (c s : List ℤ) (moon sun : Body) (love : LoveModel) (phases
   two = step_two_call n one.c one.s phases love selection
 
   module _ (one-Passes : one.number ≡ 0) (two-passes : two.number ≡ 0) where
-    one_none : (field_refusal n c s ≡ 0) × (told_number (bodyCorrections moon sun love) ≡ 0)
+    one_none : (field_refusal n c s ≡ 0) × (told_number (body_corrections moon sun love) ≡ 0)
     unfolding step_one_call
     one_none = first_none _ _ (sym (outcome_number _ c s _ _) ∙ one-Passes)
 
@@ -111,14 +111,14 @@ module _ (n : ℕ) (c s : List ℤ) (moon sun : Body) (love : LoveModel) (phases
     passes = first_passed _ _ one_none.0 ∙ first_passed _ _ two_none.1 ∙ one_none.1
 
     abbrev counts : Counts
-    counts = counts_of (bodyCorrections moon sun love)
+    counts = counts_of (body_corrections moon sun love)
 
     abbrev lines : Corrections
-    lines = lineCorrections phases love selection
+    lines = line_corrections phases love selection
 
     one_is : one ≡ record { number = 0; c = added_at places counts.c c; s = added_at places counts.s s }
     unfolding step_one_call unless_refused
-    one_is = rw (first_passed _ (told_number (bodyCorrections moon sun love)) one_none.0, one_none.1) refl
+    one_is = rw (first_passed _ (told_number (body_corrections moon sun love)) one_none.0, one_none.1) refl
 
     two_is : two ≡ record { number = 0; c = added_at places_c (for_c lines) one.c; s = added_at places_s (for_s lines) one.s }
     unfolding step_two_call five_corrected unless_refused

@@ -17,13 +17,13 @@ use Rattle.doodson.specs.Doodson.{tells_read, tells_written}
 use Rattle.refusals.specs.Outcome.{Outcome, Gives, GivesValue}
 use Rattle.lines.specs.declared.Sought.{Sought}
 use Rattle.lines.specs.declared.Sought.TheVariants as sought
-use Rattle.lines.specs.Lines.{Found, tells as tellsSought}
+use Rattle.lines.specs.Lines.{Found, tells as tells_sought}
 use Rattle.permanent.specs.declared.Moved.{Moved}
 use Rattle.permanent.specs.declared.Moved.TheVariants as moved
-use Rattle.permanent.specs.Systems.{tells as tellsMoved}
+use Rattle.permanent.specs.Systems.{tells as tells_moved}
 use Rattle.selection.specs.declared.Named.{Named}
 use Rattle.selection.specs.declared.Named.TheVariants as named
-use Rattle.selection.specs.Selection.{tells as tellsNamed}
+use Rattle.selection.specs.Selection.{tells as tells_named}
 
 -- ---- own lines, the pole tide and the ocean tide: the answer and both lists
 pub one_outcome : (o : Outcome) (a b : Answer) (c c' s s' : List ℤ) → Gives o (answer_number a) c s → Gives o (answer_number b) c' s' → (a ≡ b) × (c ≡ c') × (s ≡ s')
@@ -38,13 +38,13 @@ moved_of : Told ℤ → Moved
 moved_of (accepted z) = moved.C20 z
 moved_of (refused number) = moved.Refused (refusal_of number)
 
-moved_again : (r : Moved) → moved_of (tellsMoved r) ≡ r
+moved_again : (r : Moved) → moved_of (tells_moved r) ≡ r
 unfolding moved_of
 moved_again (moved.C20 z) = refl
 moved_again (moved.Refused r) = ap moved.Refused (refusal_again r)
 
-pub one_moved : (r q : Moved) → tellsMoved r ≡ tellsMoved q → r ≡ q
-one_moved = known tellsMoved moved_of moved_again
+pub one_moved : (r q : Moved) → tells_moved r ≡ tells_moved q → r ≡ q
+one_moved = known tells_moved moved_of moved_again
 
 read_of : Told Multipliers → Read
 read_of (accepted n) = read.Multipliers n
@@ -74,24 +74,24 @@ sought_of : Told Found → Sought
 sought_of (accepted f) = sought.Line f.index f.first f.second
 sought_of (refused number) = sought.Refused (refusal_of number)
 
-sought_again : (r : Sought) → sought_of (tellsSought r) ≡ r
+sought_again : (r : Sought) → sought_of (tells_sought r) ≡ r
 unfolding sought_of
 sought_again (sought.Line i a b) = refl
 sought_again (sought.Refused r) = ap sought.Refused (refusal_again r)
 
-pub one_sought : (r q : Sought) → tellsSought r ≡ tellsSought q → r ≡ q
-one_sought = known tellsSought sought_of sought_again
+pub one_sought : (r q : Sought) → tells_sought r ≡ tells_sought q → r ≡ q
+one_sought = known tells_sought sought_of sought_again
 
 -- ---- the solid tide: the answer with its count, and both lists
 named_of : Told ℕ → Named
 named_of (accepted lines) = named.Lines lines
 named_of (refused number) = named.Refused (refusal_of number)
 
-named_again : (r : Named) → named_of (tellsNamed r) ≡ r
+named_again : (r : Named) → named_of (tells_named r) ≡ r
 unfolding named_of
 named_again (named.Lines lines) = refl
 named_again (named.Refused r) = ap named.Refused (refusal_again r)
 
-pub one_named : (o : Outcome) (lines : ℕ) (a b : Named) (c c' s s' : List ℤ) → GivesValue o lines (tellsNamed a) c s → GivesValue o lines (tellsNamed b) c' s' → (a ≡ b) × (c ≡ c') × (s ≡ s')
+pub one_named : (o : Outcome) (lines : ℕ) (a b : Named) (c c' s s' : List ℤ) → GivesValue o lines (tells_named a) c s → GivesValue o lines (tells_named b) c' s' → (a ≡ b) × (c ≡ c') × (s ≡ s')
 one_named o lines a b c c' s s' g h =
-    (known tellsNamed named_of named_again a b (g.answer ∙ sym h.answer), g.list_c ∙ sym h.list_c, g.list_s ∙ sym h.list_s)
+    (known tells_named named_of named_again a b (g.answer ∙ sym h.answer), g.list_c ∙ sym h.list_c, g.list_s ∙ sym h.list_s)

@@ -24,14 +24,14 @@ use Rattle.field.proofs.Added.{at_here, at_elsewhere, at_rises}
 use Rattle.field.proofs.Accepted.{accepted_field, place_below}
 use Rattle.field.proofs.Entries.{entry_in_range}
 use Rattle.bodies.specs.declared.Body.{Body}
-use Rattle.step_one.specs.StepOne.{places, Counts, corrections as bodyCorrections}
+use Rattle.step_one.specs.StepOne.{places, Counts, corrections as body_corrections}
 use Rattle.step_one.proofs.Places.{place_at}
 use Rattle.step_one.specs.Inner.{Small}
 use Rattle.step_one.proofs.Counted.{WhereAccepted, SmallCounts, accepted_small, NoOrderZero, no_order_zero}
 use Rattle.hour.specs.declared.Hour.{Hour}
 use Rattle.hour.specs.Hour.{HourCall, reached}
 use Rattle.hour.proofs.Reached.{reached_fresh}
-use Rattle.step_two.specs.StepTwo.{corrections as lineCorrections, kept_corrections}
+use Rattle.step_two.specs.StepTwo.{corrections as line_corrections, kept_corrections}
 use Rattle.step_two.proofs.Kept.{fresh_corrections}
 use Rattle.step_two.proofs.Sizes.{In32Bits, kept_small}
 use Rattle.step_two.proofs.Unnamed.{no_lines}
@@ -106,7 +106,7 @@ has_room n c s e =
 -- where nothing is refused
 module _ (n : ℕ) (c s : List ℤ) (moon sun : Body) (love : LoveModel) (selection : ℕ) (two : Corrections) (passed : solid_tide_refusal n c s moon sun love selection ≡ 0) where
   abbrev one : Counts
-  one = counts_of (bodyCorrections moon sun love)
+  one = counts_of (body_corrections moon sun love)
 
   abbrev counts : Counts
   counts = solid_counts moon sun love two
@@ -157,7 +157,7 @@ module _ (n : ℕ) (c s : List ℤ) (moon sun : Body) (love : LoveModel) (select
 
   no_zonal : NoOrderZero counts
   unfolding solid_counts
-  no_zonal = still_no_order_zero one two (zeros (bodyCorrections moon sun love) (no_order_zero moon sun love))
+  no_zonal = still_no_order_zero one two (zeros (body_corrections moon sun love) (no_order_zero moon sun love))
 
   pub solid_entries : SolidEntries c s o one two
   unfolding place
@@ -170,12 +170,12 @@ module _ (n : ℕ) (c s : List ℤ) (moon sun : Body) (love : LoveModel) (select
   }
 
   -- no sum leaves 64 bits: entries of at most 2^60, and counts of at most 2^54
-  small_bodies : (t : Told Counts) → bodyCorrections moon sun love ≡ t → SmallCounts (counts_of t)
+  small_bodies : (t : Told Counts) → body_corrections moon sun love ≡ t → SmallCounts (counts_of t)
   small_bodies (accepted k) e = accepted_small moon sun love k e
   small_bodies (refused number) e = record { in_c = record { size = λ k. omega arith }; in-s = record { size = λ k. omega arith } }
 
   both_small : SmallCorrections two → Room one two
-  both_small lines = let small = small_bodies (bodyCorrections moon sun love) refl in record { in_c = small.in_c; in-s = small.in-s; lines = lines }
+  both_small lines = let small = small_bodies (body_corrections moon sun love) refl in record { in_c = small.in_c; in-s = small.in-s; lines = lines }
 
   entry-small : (by l : List ℤ) → Small 54 by → every_in_range l ≡ true → 13 ≤ length l → (k : ℕ) → nat_abs (get_or (added_at places by l) k (pos 0)) ≤ 2 ^ 60 + 2 ^ 54
   entry-small by l small range long =
@@ -197,7 +197,7 @@ module _ (n : ℕ) (c s : List ℤ) (moon sun : Body) (love : LoveModel) (hour :
   abbrev after : Outcome
   after = solid_tide n c s moon sun love hour selection
 
-  pub any_hour : SolidEntries c s after (counts_of (bodyCorrections moon sun love)) (kept_corrections hour love selection)
+  pub any_hour : SolidEntries c s after (counts_of (body_corrections moon sun love)) (kept_corrections hour love selection)
   unfolding solid_tide
   any_hour = solid_entries n c s moon sun love selection (kept_corrections hour love selection) passed
 
@@ -208,13 +208,13 @@ module _ (n : ℕ) (c s : List ℤ) (moon sun : Body) (love : LoveModel) (hour :
 
 -- no line named: step one alone
 pub none_named : (n : ℕ) (c s : List ℤ) (moon sun : Body) (love : LoveModel) (hour : Hour) → solid_tide_refusal n c s moon sun love 0 ≡ 0
-    → SolidEntries c s (solid_tide n c s moon sun love hour 0) (counts_of (bodyCorrections moon sun love)) (record { c20 = pos 0; c21 = pos 0; s21 = pos 0; c22 = pos 0; s22 = pos 0 })
+    → SolidEntries c s (solid_tide n c s moon sun love hour 0) (counts_of (body_corrections moon sun love)) (record { c20 = pos 0; c21 = pos 0; s21 = pos 0; c22 = pos 0; s22 = pos 0 })
 none_named n c s moon sun love hour passed =
-    subst (SolidEntries c s (solid_tide n c s moon sun love hour 0) (counts_of (bodyCorrections moon sun love))) (no_lines hour love) (any_hour n c s moon sun love hour 0 passed)
+    subst (SolidEntries c s (solid_tide n c s moon sun love hour 0) (counts_of (body_corrections moon sun love))) (no_lines hour love) (any_hour n c s moon sun love hour 0 passed)
 
 -- of those reached: what step two gives from their phases
 pub solid-tide : (n : ℕ) (c s : List ℤ) (moon sun : Body) (love : LoveModel) (calls : List HourCall) (selection : ℕ) → solid_tide_refusal n c s moon sun love selection ≡ 0
-    → SolidEntries c s (solid_tide n c s moon sun love (reached calls) selection) (counts_of (bodyCorrections moon sun love)) (lineCorrections (reached calls).phases love selection)
+    → SolidEntries c s (solid_tide n c s moon sun love (reached calls) selection) (counts_of (body_corrections moon sun love)) (line_corrections (reached calls).phases love selection)
 solid-tide n c s moon sun love calls selection passed =
-    subst (SolidEntries c s (solid_tide n c s moon sun love (reached calls) selection) (counts_of (bodyCorrections moon sun love)))
+    subst (SolidEntries c s (solid_tide n c s moon sun love (reached calls) selection) (counts_of (body_corrections moon sun love)))
     (fresh_corrections (reached calls) (reached_fresh calls) love selection) (any_hour n c s moon sun love (reached calls) selection passed)

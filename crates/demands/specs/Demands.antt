@@ -14,19 +14,19 @@ use Rattle.field.specs.Field.{place}
 use Rattle.hour.specs.declared.Hour.{Hour}
 use Rattle.hour.specs.Hour.{HourCall, reached}
 use Rattle.ocean.specs.Ocean.{d_c, d_s}
-use Rattle.ocean_bound.specs.Exact.{AtMostNineCounts, exact_sum as oceanSum}
+use Rattle.ocean_bound.specs.Exact.{AtMostNineCounts, exact_sum as ocean_sum}
 use Rattle.own.specs.declared.OwnLine.{OwnLine}
 use Rattle.own.specs.Own.{own_corrections}
 use Rattle.own_bound.specs.Exact.{WithinThreeCounts, exact_sum as own_sum}
 use Rattle.permanent.specs.Systems.{moved_c20}
 use Rattle.places.specs.Places.{index_of}
-use Rattle.pole.specs.Pole.{exact_c21, exact_s21, corrections as poleCorrections, WithinHalfACount}
+use Rattle.pole.specs.Pole.{exact_c21, exact_s21, corrections as pole_corrections, WithinHalfACount}
 use Rattle.refusals.specs.Outcome.{Outcome}
 use Rattle.refusals.specs.Told.Told.{accepted}
 use Rattle.sheet.specs.Sheet.{place_count, c_cos, s_cos, c_sin, s_sin}
 use Rattle.solid.specs.Solid.{counts_of}
-use Rattle.step_one.specs.StepOne.{Counts, places, corrections as bodyCorrections}
-use Rattle.step_two.specs.StepTwo.{corrections as lineCorrections, kept_corrections}
+use Rattle.step_one.specs.StepOne.{Counts, places, corrections as body_corrections}
+use Rattle.step_two.specs.StepTwo.{corrections as line_corrections, kept_corrections}
 use Rattle.step_two_bound.specs.Exact.{LessThanOneCount, exact_sum as line_sum}
 use Rattle.surfgimlet.specs.Calls.{solid_tide_refusal, solid_tide, own_lines_refusal, own_lines, pole_tide_refusal, pole_tide, ocean_refusal, ocean_tide}
 
@@ -91,8 +91,8 @@ pub record FiveEntries (c s : List ℤ) (o : Outcome) (d : Corrections) : Type 0
 
 -- T-05: "Nothing but the two entries moves"
 pub record PoleEntries (n : ℕ) (c s : List ℤ) (xp yp : ℤ) (love : LoveModel) : Type 0 where
-  pub c21 : at (pole_tide n c s xp yp love).c (place 2 1) ≡ at c (place 2 1) +ℤ (poleCorrections xp yp love).c21
-  pub s21 : at (pole_tide n c s xp yp love).s (place 2 1) ≡ at s (place 2 1) +ℤ (poleCorrections xp yp love).s21
+  pub c21 : at (pole_tide n c s xp yp love).c (place 2 1) ≡ at c (place 2 1) +ℤ (pole_corrections xp yp love).c21
+  pub s21 : at (pole_tide n c s xp yp love).s (place 2 1) ≡ at s (place 2 1) +ℤ (pole_corrections xp yp love).s21
   pub c_elsewhere : (k : ℕ) → (k ≡ place 2 1 → ⊥) → at (pole_tide n c s xp yp love).c k ≡ at c k
   pub s_elsewhere : (k : ℕ) → (k ≡ place 2 1 → ⊥) → at (pole_tide n c s xp yp love).s k ≡ at s k
   pub order_zero : (d : ℕ) → at (pole_tide n c s xp yp love).s (place d 0) ≡ at s (place d 0)
@@ -107,10 +107,10 @@ pub record OceanEntries (n : ℕ) (c s : List ℤ) (sheet : List ℕ) (phases : 
 pub record Second : Type 0 where
   -- T-08: "The second and third demands are then about records reached in this way", after any calls from the start
   pub solid-tide : (n : ℕ) (c s : List ℤ) (moon sun : Body) (love : LoveModel) (calls : List HourCall) (selection : ℕ) → solid_tide_refusal n c s moon sun love selection ≡ 0
-      → SolidEntries c s (solid_tide n c s moon sun love (reached calls) selection) (counts_of (bodyCorrections moon sun love)) (lineCorrections (reached calls).phases love selection)
+      → SolidEntries c s (solid_tide n c s moon sun love (reached calls) selection) (counts_of (body_corrections moon sun love)) (line_corrections (reached calls).phases love selection)
   -- T-08: "for any other record the result is the same sum over the values it holds"
   pub any_hour : (n : ℕ) (c s : List ℤ) (moon sun : Body) (love : LoveModel) (hour : Hour) (selection : ℕ) → solid_tide_refusal n c s moon sun love selection ≡ 0
-      → SolidEntries c s (solid_tide n c s moon sun love hour selection) (counts_of (bodyCorrections moon sun love)) (kept_corrections hour love selection)
+      → SolidEntries c s (solid_tide n c s moon sun love hour selection) (counts_of (body_corrections moon sun love)) (kept_corrections hour love selection)
   pub own-lines : (n : ℕ) (c s : List ℤ) (lines : List OwnLine) (phases : Phases) → own_lines_refusal n c s lines ≡ 0
       → FiveEntries c s (own_lines n c s lines phases) (own_corrections phases lines)
   pub pole-tide : (n : ℕ) (c s : List ℤ) (xp yp : ℤ) (love : LoveModel) → pole_tide_refusal n c s xp yp ≡ 0 → PoleEntries n c s xp yp love
@@ -127,8 +127,8 @@ abbrev pub gain_of : List ℤ → List ℤ → Outcome → Coefficient → ℤ
 gain_of c s o k = entry_of o.c o.s k -ℤ entry_of c s k
 
 pub record OceanClose (n : ℕ) (c s : List ℤ) (sheet : List ℕ) (phases : Phases) (frame : Frame) : Type 0 where
-  pub in_c : (j : ℕ) → j < place_count sheet → AtMostNineCounts (gained c (ocean_tide n c s sheet phases frame).c (index_of sheet j)) (oceanSum sheet phases frame c_cos c_sin j)
-  pub in-s : (j : ℕ) → j < place_count sheet → AtMostNineCounts (gained s (ocean_tide n c s sheet phases frame).s (index_of sheet j)) (oceanSum sheet phases frame s_cos s_sin j)
+  pub in_c : (j : ℕ) → j < place_count sheet → AtMostNineCounts (gained c (ocean_tide n c s sheet phases frame).c (index_of sheet j)) (ocean_sum sheet phases frame c_cos c_sin j)
+  pub in-s : (j : ℕ) → j < place_count sheet → AtMostNineCounts (gained s (ocean_tide n c s sheet phases frame).s (index_of sheet j)) (ocean_sum sheet phases frame s_cos s_sin j)
 
 pub record PoleClose (n : ℕ) (c s : List ℤ) (xp yp : ℤ) (love : LoveModel) : Type 0 where
   pub c21 : WithinHalfACount (gained c (pole_tide n c s xp yp love).c (place 2 1)) (exact_c21 love xp yp)
@@ -138,7 +138,7 @@ pub record Third : Type 0 where
   -- T-06: "the third demand then reads the part of the sum that step two gives": what an entry gained, less step one's correction.
   -- T-04: "The less-than-one-count bound is to hold for every selection", from the exact sum of the lines named
   pub solid-tide : (n : ℕ) (c s : List ℤ) (moon sun : Body) (love : LoveModel) (calls : List HourCall) (selection : ℕ) → solid_tide_refusal n c s moon sun love selection ≡ 0 → (k : Coefficient)
-      → LessThanOneCount (gain_of c s (solid_tide n c s moon sun love (reached calls) selection) k -ℤ of_bodies (counts_of (bodyCorrections moon sun love)) k) (line_sum (reached calls).phases love selection k)
+      → LessThanOneCount (gain_of c s (solid_tide n c s moon sun love (reached calls) selection) k -ℤ of_bodies (counts_of (body_corrections moon sun love)) k) (line_sum (reached calls).phases love selection k)
   -- T-01: "Each resulting correction must lie within three counts of its exact sum"
   pub own-lines : (n : ℕ) (c s : List ℤ) (lines : List OwnLine) (phases : Phases) → own_lines_refusal n c s lines ≡ 0 → (k : Coefficient)
       → WithinThreeCounts (gain_of c s (own_lines n c s lines phases) k) (own_sum phases lines k)

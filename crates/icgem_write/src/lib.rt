@@ -4,7 +4,7 @@
 
 ghost use Rattle.std.specs.Prelude.{◌≡◌, suc, ◌+◌, ◌*◌, ◌^◌, ◌≤◌, ◌<◌, nat_abs, length};
 ghost use Rattle.field.specs.Field.{size};
-ghost use Rattle.icgem_names.specs.Names.{system_name, radius as radiusName};
+ghost use Rattle.icgem_names.specs.Names.{system_name, radius as radius_name};
 ghost use Rattle.text.specs.Inner.{Put};
 ghost use Rattle.text.specs.Text.{decimal, fixed_point, padded};
 ghost use Rattle.icgem_write.specs.Outcome.{Writes, tells};
@@ -52,7 +52,7 @@ fn put_whole_entry(out: &mut [u8], at: usize, keyword: &[u8], n: u64) -> usize
 // Puts the radius, given in millimetres, in metres.
 fn put_radius(out: &mut [u8], at: usize, radius: u64) -> usize
     requires { at + 54 ≤ length out.old }
-    ensures { PutLines 1 out.old at (entry radiusName (fixed_point 3 radius)) out.new result }
+    ensures { PutLines 1 out.old at (entry radius_name (fixed_point 3 radius)) out.new result }
 {
     let next = text::put_word(out, at, b"radius");
     let next = columns::put_number(out, next, COLUMNS - 6, false, 3, 1000, radius);

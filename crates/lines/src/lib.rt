@@ -4,7 +4,7 @@
 
 ghost use Rattle.std.specs.Prelude.{◌≡◌, ◌≤◌, ◌<◌, nat_abs};
 ghost use Rattle.lines.specs.Lines.{band_at, in_model, printed_line, find_line, tells};
-ghost use Rattle.lines.specs.Inner.{number_in, multipliers_by, line_with, digits as digitsColumn, firsts, seconds};
+ghost use Rattle.lines.specs.Inner.{number_in, multipliers_by, line_with, digits as digits_column, firsts, seconds};
 
 use arguments::Multipliers;
 use bands::{Band, Line};
@@ -43,7 +43,7 @@ pub struct Tables {
 }
 
 pub fn printed_tables() -> Tables
-    ensures { (result.digits ≡ digitsColumn) × ((result.first ≡ firsts) × (result.second ≡ seconds)) }
+    ensures { (result.digits ≡ digits_column) × ((result.first ≡ firsts) × (result.second ≡ seconds)) }
 {
     Tables {
         digits: DIGITS,

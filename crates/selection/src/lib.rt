@@ -4,7 +4,7 @@
 
 ghost use Rattle.std.specs.Prelude.{◌≡◌, ◌<◌};
 ghost use Rattle.refusals.specs.Numbers.{answer_number};
-ghost use Rattle.selection.specs.Selection.{names as namesLine, lines_named, selection_refusal};
+ghost use Rattle.selection.specs.Selection.{names as names_line, lines_named, selection_refusal};
 
 use refusals::{Answer, Refusal};
 
@@ -19,7 +19,7 @@ pub enum Named {
 // Whether a selection names line i.
 pub fn names(selection: u64, i: usize) -> bool
     requires { i < 49 }
-    ensures { result ≡ namesLine selection i }
+    ensures { result ≡ names_line selection i }
 {
     (selection >> i) % 2 == 1
 }

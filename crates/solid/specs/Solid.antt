@@ -6,7 +6,7 @@ use Rattle.bodies.specs.declared.Body.{Body}
 use Rattle.choices.specs.declared.LoveModel.{LoveModel}
 use Rattle.refusals.specs.Told.{Told}
 use Rattle.refusals.specs.Told.Told.{accepted, refused}
-use Rattle.step_one.specs.StepOne.{Counts, corrections as bodyCorrections}
+use Rattle.step_one.specs.StepOne.{Counts, corrections as body_corrections}
 
 -- two lists added place by place; what one of them does not reach is the other's alone
 unfoldable pub plus : List ℤ → List ℤ → List ℤ
@@ -29,4 +29,4 @@ counts_of (refused number) = record { c = []; s = [] }
 
 -- what the bodies raise, with given corrections of lines
 unfoldable pub solid_counts : Body → Body → LoveModel → Corrections → Counts
-solid_counts moon sun love two = with_lines (counts_of (bodyCorrections moon sun love)) two
+solid_counts moon sun love two = with_lines (counts_of (body_corrections moon sun love)) two

@@ -6,7 +6,7 @@
 ghost use Rattle.std.specs.Prelude.{◌≡◌, ◌+◌, ◌<◌};
 ghost use Rattle.bands.specs.Inner.{sums_of, Bounded, Small};
 ghost use Rattle.lines.specs.Inner.{firsts, seconds};
-ghost use Rattle.selection.specs.Selection.{names as namesLine};
+ghost use Rattle.selection.specs.Selection.{names as names_line};
 ghost use Rattle.step_two.specs.Inner.{up_to, Running};
 ghost use Rattle.step_two.specs.StepTwo.{kept_corrections};
 
@@ -18,7 +18,7 @@ use hour::Hour;
 // amplitude as a constant.
 fn is_named(selection: u64, i: usize) -> bool
     requires { i < 49 }
-    ensures { result ≡ namesLine selection i }
+    ensures { result ≡ names_line selection i }
 {
     if selection == profiles::all_lines() {
         true

@@ -26,7 +26,7 @@ use Rattle.refusals.proofs.Outcomes.{gives_new, gives_kept, first_none}
 use Rattle.selection.specs.Selection.{selection_refusal}
 use Rattle.solid.specs.Solid.{with_lines, counts_of, solid_counts}
 use Rattle.step_one.specs.Inner.{Small}
-use Rattle.step_one.specs.StepOne.{Counts, places, corrections as bodyCorrections, told}
+use Rattle.step_one.specs.StepOne.{Counts, places, corrections as body_corrections, told}
 use Rattle.step_one.proofs.Places.{place_at}
 use Rattle.step_two.specs.StepTwo.{kept_corrections}
 use Rattle.surfgimlet.specs.Calls.{solid_tide_refusal, solid_by, solid_tide}
@@ -50,17 +50,17 @@ told-number (Refused r) k = refl
 pub record Passed (n : ℕ) (c s : List ℤ) (moon sun : Body) (love : LoveModel) (selection : ℕ) (k : Counts) : Type 0 where
   pub field : field_refusal n c s ≡ 0
   pub chosen : selection_refusal selection ≡ 0
-  pub bodies : bodyCorrections moon sun love ≡ accepted k
+  pub bodies : body_corrections moon sun love ≡ accepted k
 
 -- both steps' counts
-pub counts_are : (moon sun : Body) (love : LoveModel) (k : Counts) → bodyCorrections moon sun love ≡ accepted k
+pub counts_are : (moon sun : Body) (love : LoveModel) (k : Counts) → body_corrections moon sun love ≡ accepted k
     → (two d : LineCorrections) → d ≡ two → with_lines k d ≡ solid_counts moon sun love two
 unfolding solid_counts
 counts_are moon sun love k seen two d same = ap₂ (λ (t : Told Counts) (d : LineCorrections). with_lines (counts_of t) d) (sym seen) same
 
 module _ (n : ℕ) (c s : List ℤ) (moon sun : Body) (love : LoveModel) (selection : ℕ) where
   -- the bodies' answer a with its counts k
-  module _ (a : Answer) (k : Counts) (seen : told a k ≡ bodyCorrections moon sun love) where
+  module _ (a : Answer) (k : Counts) (seen : told a k ≡ body_corrections moon sun love) where
     pub number_is : first_of (field_refusal n c s) (first_of (selection_refusal selection) (answer_number a)) ≡ solid_tide_refusal n c s moon sun love selection
     unfolding solid_tide_refusal
     number_is = ap (λ (x : ℕ). first_of (field_refusal n c s) (first_of (selection_refusal selection) x)) (sym (told-number a k) ∙ ap told_number seen)

@@ -13,20 +13,20 @@ use Rattle.ocean.specs.Ocean.{d_c, d_s}
 use Rattle.own.specs.declared.OwnLine.{OwnLine}
 use Rattle.own.specs.Own.{records_refusal, own_corrections}
 use Rattle.places.specs.Places.{index_of}
-use Rattle.pole.specs.Pole.{offsets_refusal, corrections as poleCorrections}
+use Rattle.pole.specs.Pole.{offsets_refusal, corrections as pole_corrections}
 use Rattle.refusals.specs.Outcome.{Outcome, first_of, unless_refused}
 use Rattle.refusals.specs.Told.{told_number}
 use Rattle.selection.specs.Selection.{selection_refusal}
 use Rattle.sheet.specs.Accepted.{sheet_refusal}
 use Rattle.sheet.specs.Sheet.{place_count}
 use Rattle.solid.specs.Solid.{solid_counts}
-use Rattle.step_one.specs.StepOne.{places, corrections as bodyCorrections}
+use Rattle.step_one.specs.StepOne.{places, corrections as body_corrections}
 use Rattle.step_two.specs.StepTwo.{kept_corrections}
 
 -- ---- solid tide (02, T-06): refusals 1, 2, 14, then the Moon's 3, 4, 5, the Sun's, and 6
 unfoldable pub solid_tide_refusal : ℕ → List ℤ → List ℤ → Body → Body → LoveModel → ℕ → ℕ
 solid_tide_refusal n c s moon sun love selection =
-    first_of (field_refusal n c s) (first_of (selection_refusal selection) (told_number (bodyCorrections moon sun love)))
+    first_of (field_refusal n c s) (first_of (selection_refusal selection) (told_number (body_corrections moon sun love)))
 
 -- "The correction is the sum of the two, added once.": with given corrections of lines
 unfoldable pub solid_by : ℕ → List ℤ → List ℤ → Body → Body → LoveModel → ℕ → Corrections → Outcome
@@ -65,7 +65,7 @@ pole_tide_refusal n c s xp yp = first_of (field_refusal n c s) (offsets_refusal 
 -- "Nothing but the two entries moves": C21 and S21
 unfoldable pub pole_tide : ℕ → List ℤ → List ℤ → ℤ → ℤ → LoveModel → Outcome
 pole_tide n c s xp yp love =
-    let d = poleCorrections xp yp love in
+    let d = pole_corrections xp yp love in
     unless_refused (pole_tide_refusal n c s xp yp) c s (corrected c (place 2 1) d.c21) (corrected s (place 2 1) d.s21)
 
 -- ---- ocean tide: refusals 1, 2, then the sheet's 7, 8, 16, 9

@@ -12,14 +12,14 @@ ghost use Rattle.field.specs.Added.{added_at};
 ghost use Rattle.field.specs.Field.{field_refusal};
 ghost use Rattle.hour.specs.Hour.{hour_at, start_hour, moved_hour};
 ghost use Rattle.icgem_file.specs.File.{file_head, read_file};
-ghost use Rattle.icgem_read.specs.Told.{Reads, tells as tellsFile};
-ghost use Rattle.icgem_write.specs.Outcome.{Writes, tells as tellsWrote};
-ghost use Rattle.lines.specs.Lines.{find_line, tells as tellsSought};
-ghost use Rattle.permanent.specs.Systems.{moved_c20, tells as tellsMoved};
+ghost use Rattle.icgem_read.specs.Told.{Reads, tells as tells_file};
+ghost use Rattle.icgem_write.specs.Outcome.{Writes, tells as tells_wrote};
+ghost use Rattle.lines.specs.Lines.{find_line, tells as tells_sought};
+ghost use Rattle.permanent.specs.Systems.{moved_c20, tells as tells_moved};
 ghost use Rattle.refusals.specs.Numbers.{answer_number};
 ghost use Rattle.refusals.specs.Outcome.{Gives, GivesValue, first_of};
 ghost use Rattle.profiles.specs.Profiles.{all_lines, major_lines};
-ghost use Rattle.selection.specs.Selection.{lines_named, tells as tellsNamed};
+ghost use Rattle.selection.specs.Selection.{lines_named, tells as tells_named};
 ghost use Rattle.surfgimlet.specs.Calls.{places_c, places_s, five_corrected, solid_tide, own_lines, pole_tide, ocean_tide};
 ghost use Rattle.surfgimlet.specs.Inner.{FiveReady};
 
@@ -82,7 +82,7 @@ pub fn solid_tide(
     hour: Hour,
     selection: u64,
 ) -> Named
-    ensures { GivesValue (solid_tide n c.old s.old moon sun love hour selection) (lines_named selection) (tellsNamed result) c.new s.new }
+    ensures { GivesValue (solid_tide n c.old s.old moon sun love hour selection) (lines_named selection) (tells_named result) c.new s.new }
 {
     let chosen = selection::tested(selection);
     let one = step_one::corrections_of(moon, sun, love);
@@ -192,7 +192,7 @@ pub fn ocean_tide(
 // Answered: the moved C20.
 // Refused: 2.
 pub fn move_c20(c20: i64, from: PermanentSystem, to: PermanentSystem, love: LoveModel) -> Moved
-    ensures { tellsMoved result ≡ moved_c20 c20 from to love }
+    ensures { tells_moved result ≡ moved_c20 c20 from to love }
 {
     permanent::move_c20(c20, from, to, love)
 }
@@ -202,7 +202,7 @@ pub fn move_c20(c20: i64, from: PermanentSystem, to: PermanentSystem, love: Love
 // Answered: its degree, gravity constant in m3/s2, radius in millimetres and permanent system, each decimal exact and rounded once.
 // Refused: 17, then 18, then 19, then 20, each looking at the whole file.
 pub fn file_head(text: &[u8]) -> FileTold
-    ensures { tellsFile result ≡ file_head text.now }
+    ensures { tells_file result ≡ file_head text.now }
 {
     icgem_read::file_head(text)
 }
@@ -213,7 +213,7 @@ pub fn file_head(text: &[u8]) -> FileTold
 // Answered: as file_head.
 // Refused: as file_head, then 1, lists that do not fit the file's degree.
 pub fn read_field(text: &[u8], c: &mut [i64], s: &mut [i64]) -> FileTold
-    ensures { Reads (read_file text.now c.old s.old) (tellsFile result) c.new s.new }
+    ensures { Reads (read_file text.now c.old s.old) (tells_file result) c.new s.new }
 {
     icgem_read::read_field(text, c, s)
 }
@@ -232,7 +232,7 @@ pub fn write_field(
     system: PermanentSystem,
     out: &mut [u8],
 ) -> Wrote
-    ensures { Writes n c.now s.now constant radius system out.old (tellsWrote result) out.new }
+    ensures { Writes n c.now s.now constant radius system out.old (tells_wrote result) out.new }
 {
     icgem_write::write_field(n, c, s, constant, radius, system, out)
 }
@@ -253,7 +253,7 @@ pub fn number_of(n: Multipliers) -> Written
 
 // A printed line by its Doodson number: its index 0..48 and its two printed amplitudes. Refused: 10, then 11.
 pub fn find_line(number: u32) -> Sought
-    ensures { tellsSought result ≡ find_line number }
+    ensures { tells_sought result ≡ find_line number }
 {
     lines::find_line(number)
 }
