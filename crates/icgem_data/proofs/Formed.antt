@@ -19,7 +19,7 @@ use Rattle.icgem_file.specs.Data.{columned, line_formed}
 use Rattle.icgem_words.specs.Inner.{part}
 use Rattle.icgem_words.specs.Words.{pieces, words, same_word}
 use Rattle.icgem_words.proofs.Same.{same_equal}
-use Rattle.icgem_data.specs.Inner.{WordIs, FiveWords, paired, NumbersTaken, LineTaken}
+use Rattle.icgem_data.specs.Inner.{FiveWords, paired, NumbersTaken, LineTaken}
 
 -- ---- the first word and the columns
 module _ {word : List ℕ} {w : List ℕ} {same : Bool} (e : word ≡ w) (s : same ≡ same_word word gfc) where
@@ -59,9 +59,6 @@ there k l h = either (leb (length l) k) (λ e. absurd (omega (arith, ap length (
 
 pub part_length : (line : List ℕ) (from to : ℕ) → to ≤ length line → length (part from to line) ≡ to - from
 part_length line from to h = length-take-le (to - from) (drop from line) (omega (arith, length-drop from line))
-
-pub word_short : (line word : List ℕ) {k at from to n : ℕ} → WordIs line k at from to → length line ≤ n → word ≡ part from to line → length word ≤ n
-word_short line word {from = from} {to = to} w h e = omega (arith, ap length e, part_length line from to w.within)
 
 -- ---- the line
 module _ {d o c s d' o' c' s' : List ℕ} (D : d ≡ d') (O : o ≡ o') (C : c ≡ c') (S : s ≡ s') where

@@ -1,12 +1,12 @@
 -- One line more, kept.
-use mathlib.Core.Path.{◌≡◌, refl, sym, ap, subst, ◌∙◌}
-use mathlib.Core.Bool.{Bool, true, false, ◌&&◌}
+use mathlib.Core.Path.{◌≡◌, refl, sym, ap, ◌∙◌}
+use mathlib.Core.Bool.{Bool, true, ◌&&◌}
 use mathlib.Core.List.{List}
 use Prim.Native.Nat.{ℕ, ◌+◌, ◌≤◌, ◌<◌}
 use native.Mathlib.Nat.{mul-le-mul}
 use native.Mathlib.Omega.{arith}
 use borrow.Author.Tests.{leb-true, leb-false}
-use lib.Dec.{T, leb}
+use lib.Dec.{leb}
 use lib.IntN.{ℤ}
 use lib.ListN.{length, set, length-set}
 use lib.Seq.{set_out}
@@ -36,37 +36,7 @@ set_stands {degree} {order} {at} h l z short =
 -- ---- a line
 module _ {n : ℕ} {line : List ℕ} {ok ins : Bool} {at : ℕ} {x y : ℤ} (t : LineTaken n line ok ins at x y)
     (start : ℕ) (inside : Bool) (count : ℕ) (starts : List ℕ) (c s : List ℤ) where
-  pub kept_none : ok ≡ false → LineKept n line start inside count starts c s false false 0 starts c s
-  kept_none e =
-      record {
-        ok_is = sym e ∙ t.ok_is;
-        long = λ k. absurd (subst T (sym k) tt);
-        inside_is = λ k. absurd (subst T (sym k) tt);
-        count-is = λ k. absurd (subst T (sym k) tt);
-        starts_is = λ k. absurd (subst T (sym k) tt);
-        c_is = λ k. absurd (subst T (sym k) tt);
-        s_is = λ k. absurd (subst T (sym k) tt);
-        starts_room = refl;
-        c-room = refl;
-        s-room = refl;
-      }
-
   module _ (e : ok ≡ true) where
-    pub kept_outside : (inside && ins) ≡ false → LineKept n line start inside count starts c s true false (count + 1) (set starts count start) c s
-    kept_outside g =
-        record {
-          ok_is = sym e ∙ t.ok_is;
-          long = λ _. t.long e;
-          inside_is = λ _. sym g ∙ ap (λ (b : Bool). inside && b) (t.inside_is e);
-          count-is = λ _. refl;
-          starts_is = λ _. refl;
-          c_is = λ _ k. absurd (subst T (sym k) tt);
-          s_is = λ _ k. absurd (subst T (sym k) tt);
-          starts_room = length-set starts count start;
-          c-room = refl;
-          s-room = refl;
-        }
-
     module _ (g : (inside && ins) ≡ true) (cl : length c ≤ 1891) (sl : length s ≤ 1891) where
       both : (is_entry (c_in (words line)) && is_entry (s_in (words line))) ≡ true
       both = sym (t.inside_is e) ∙ and_right inside ins g

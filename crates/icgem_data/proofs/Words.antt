@@ -6,11 +6,10 @@ use Prim.Native.Nat.{ℕ, ◌-◌}
 use native.Mathlib.Numerals.{add-one}
 use native.Mathlib.Nat.{add-zero}
 use native.Mathlib.Omega.{arith}
-use borrow.Author.Tests.{ltb-true, ltb-false, lt-ltb, le-ltb}
+use borrow.Author.Tests.{ltb-true, ltb-false}
 use lib.Dec.{ltb}
-use lib.ListN.{length, get_or, drop}
+use lib.ListN.{get_or, drop}
 use lib.Seq.{get_or-drop, drop-drop}
-use Rattle.icgem_decimal.proofs.Tests.{either}
 use Rattle.icgem_file.specs.Header.{word_at}
 use Rattle.icgem_words.specs.Inner.{part, NextWord}
 use Rattle.icgem_words.specs.Words.{words}
@@ -51,9 +50,3 @@ module _ {line : List ℕ} {f t f1 t1 f2 t2 f3 t3 f4 t4 : ℕ} where
       let w2 = word_is c 2 w1.rest in
       let w3 = word_is d 3 w2.rest in
       record { word0 = w0; word1 = w1; word2 = w2; word3 = w3; word4 = word_is e 4 w3.rest }
-
-pub worded_test : {line : List ℕ} {from to : ℕ} → NextWord line 0 from to → ltb from to ≡ ltb 0 (length (words line))
-worded_test {line} {from} {to} w =
-    either (ltb from to)
-    (λ e. e ∙ sym (lt-ltb 0 (length (words line)) (omega (arith, ap length (w.some (ltb-true from to e))))))
-    (λ e. e ∙ sym (le-ltb 0 (length (words line)) (omega (arith, ap length (w.none (ltb-false from to e))))))

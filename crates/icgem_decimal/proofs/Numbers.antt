@@ -1,5 +1,5 @@
 -- Numbers held below 2^64, or known to be 2^64 or more.
-use Rattle.std.proofs.Common.{◌≡◌, ℕ, zero, suc, ◌+◌, ◌*◌, ◌%◌, ◌^◌, ◌<◌, ◌≤◌, min, Bool, true, false, T, eqb, leb, sym, refl, ◌∙◌, subst, mul-le-mul_right, pow-suc, add-one, arith, eq-eqb, ne_eqb, le-leb, leb-false, leb-true}
+use Rattle.std.proofs.Common.{◌≡◌, ℕ, zero, suc, ◌+◌, ◌*◌, ◌^◌, ◌<◌, ◌≤◌, min, Bool, true, false, T, leb, sym, ◌∙◌, subst, mul-le-mul_right, pow-suc, add-one, arith, le-leb, leb-false, leb-true}
 use native.Mathlib.Nat.{pow-le-pow_right}
 use borrow.Author.Tests.{lt-leb}
 use Rattle.icgem_decimal.specs.Decimal.{Held}
@@ -24,15 +24,6 @@ module _ {o : Bool} {v n : ℕ} (h : Held o v n) where
 held_large : {o : Bool} {v m n : ℕ} → Held o v m → 2 ^ 64 ≤ m → 2 ^ 64 ≤ n → Held o v n
 held_large {o} {v} {m} {n} h M N = held_over (h.over_is ∙ le-leb (2 ^ 64) m M) N
 
--- the next number, of which the machine keeps what is below 2^64
-pub held_next : (n : ℕ) → n < 2 ^ 64 → Held (eqb ((n + 1) % 2 ^ 64) 0) ((n + 1) % 2 ^ 64) (n + 1)
-held_next n h =
-    either (leb (2 ^ 64) (n + 1))
-    (λ t. let l = leb-true (2 ^ 64) (n + 1) t in held_over (eq-eqb ((n + 1) % 2 ^ 64) 0 (omega arith)) l)
-    (λ t. let l = leb-false (2 ^ 64) (n + 1) t in
-    let e : (n + 1) % 2 ^ 64 ≡ n + 1 = omega arith in
-    rw (e, ne_eqb (n + 1) 0 (omega arith)) (held_below refl l))
-
 -- ---- powers of ten
 large_power : (n k : ℕ) → 1 ≤ n → 20 ≤ k → 2 ^ 64 ≤ n * 10 ^ k
 large_power n k N K = omega (arith, mul-le-mul_right (10 ^ k) N, pow-le-pow_right {n = 10} (omega arith) K)
@@ -41,9 +32,6 @@ large_power n k N K = omega (arith, mul-le-mul_right (10 ^ k) N, pow-le-pow_righ
 pub held_far : {o : Bool} {v : ℕ} (n j k : ℕ) → 20 ≤ j → 20 ≤ k → Held o v (n * 10 ^ j) → Held o v (n * 10 ^ k)
 held_far {o} {v} zero j k J K h = let e : zero * 10 ^ j ≡ zero * 10 ^ k = omega arith in subst (Held o v) e h
 held_far (suc n) j k J K h = held_large h (large_power (suc n) j (omega arith) J) (large_power (suc n) k (omega arith) K)
-
-pub raise_none : (o : Bool) (v : ℕ) → Mapped (λ n. n * 10 ^ 0) o v o v
-raise_none o v = record { each = λ n h. let e : n ≡ n * 10 ^ 0 = omega arith in subst (Held o v) e h }
 
 pub raise_next : {o o' o'' : Bool} {v v' v'' : ℕ} (i : ℕ) → Mapped (λ n. n * 10 ^ i) o v o' v' → Mapped (λ n. 10 * n + 0) o' v' o'' v''
     → Mapped (λ n. n * 10 ^ (i + 1)) o v o'' v''

@@ -1,11 +1,10 @@
 -- Whole numbers of any length, in order: zeros before them change nothing, and the first digit that differs decides.
-use Rattle.std.proofs.Common.{◌≡◌, ℕ, zero, suc, ◌+◌, ◌-◌, ◌*◌, ◌^◌, ◌<◌, ◌≤◌, true, ◌&&◌, eqb, leb, List, length, get_or, take, drop, replicate, sym, refl, ap, ◌∙◌, mul-le-mul_right, arith, length-append, length-drop, take_all, eq-eqb, ne_eqb, leb-false, leb-true}
-use lib.ListN.{length-replicate, get_or-replicate, get_or-append}
+use Rattle.std.proofs.Common.{◌≡◌, ℕ, zero, suc, ◌+◌, ◌-◌, ◌*◌, ◌^◌, ◌<◌, ◌≤◌, true, List, length, get_or, take, drop, replicate, sym, refl, ap, ◌∙◌, mul-le-mul_right, arith, length-append, length-drop, take_all}
+use lib.ListN.{length-replicate}
 use Rattle.whole.proofs.Tests.{both_ends}
 use Rattle.icgem_decimal.specs.Decimal.{all_digits, read_on, value_of}
 use Rattle.icgem_decimal.specs.Inner.{padded}
-use Rattle.icgem_decimal.proofs.Digits.{digits_append, digit_at, digits_drop, joint_past, read_append, value_next, value_split, value_below}
-use Rattle.icgem_decimal.proofs.Tests.{either}
+use Rattle.icgem_decimal.proofs.Digits.{digits_append, digit_at, digits_drop, read_append, value_next, value_split, value_below}
 
 -- ---- zeros
 zeros_digits : (k : ℕ) → all_digits (replicate k 48) ≡ true
@@ -27,17 +26,6 @@ module _ (n : ℕ) (l : List ℕ) where
 
   pub padded_length : length l ≤ n → length (padded n l) ≡ n
   padded_length h = omega (arith, length-append (replicate (n - length l) 48) l, length-replicate {A = ℕ} (n - length l) 48)
-
-  -- a zero before the text, or the text's own digit
-  pub padded_zero : (i : ℕ) → i < n - length l → 48 ≡ get_or (padded n l) i 0
-  padded_zero i h =
-      sym
-      (get_or-append (replicate (n - length l) 48) l 0 i (omega (arith, length-replicate {A = ℕ} (n - length l) 48)) ∙ get_or-replicate (n - length l) i 48 0 h)
-
-  pub padded_own : (i : ℕ) → n - length l ≤ i → get_or l (i - (n - length l)) 0 ≡ get_or (padded n l) i 0
-  padded_own i h =
-      let e = length-replicate {A = ℕ} (n - length l) 48 in
-      ap (λ (k : ℕ). get_or l (i - k) 0) (sym e) ∙ joint_past (replicate (n - length l) 48) l i (omega arith)
 
 below : (v t x y p q : ℕ) → p < t → x < y → v * (t * 10) + (x * t + p) < v * (t * 10) + (y * t + q)
 below v t x y p q h l = omega (arith, mul-le-mul_right t l)
@@ -84,11 +72,3 @@ module _ {n : ℕ} {a b : List ℕ} {i : ℕ} (g : Agree n a b i) where
       let lb = padded_length n b g.room_b in
       rw (take_all i (padded n a) (omega arith), take_all i (padded n b) (omega arith), padded_value n a, padded_value n b)
       at g.alike
-
--- ---- equal, where each is at most the other
-pub both_ways : (m n : ℕ) → (leb m n && leb n m) ≡ eqb m n
-both_ways m n =
-    either (leb m n)
-    (λ l. either (leb n m) (λ k. rw (l, k, eq-eqb m n (omega (arith, leb-true m n l, leb-true n m k))))
-    (λ k. rw (l, k, ne_eqb m n (omega (arith, leb-false n m k)))))
-    (λ l. rw (l, ne_eqb m n (omega (arith, leb-false m n l))))

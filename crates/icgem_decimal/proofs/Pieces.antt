@@ -1,5 +1,5 @@
 -- The first piece of a text, and what stands after it.
-use Rattle.std.proofs.Common.{◌≡◌, ℕ, suc, ◌+◌, ◌-◌, ◌<◌, ◌≤◌, Bool, true, false, eqb, List, [], ◌∷◌, length, get_or, take, drop, sym, refl, ap, ◌∙◌, add-one, arith, length-drop, drop_of_length-le, take_all, drop-cons, eqb-true}
+use Rattle.std.proofs.Common.{◌≡◌, ℕ, suc, ◌+◌, ◌<◌, ◌≤◌, Bool, true, false, eqb, List, [], ◌∷◌, length, get_or, take, drop, sym, refl, ap, ◌∙◌, add-one, arith, drop_of_length-le, drop-cons, eqb-true}
 use Rattle.whole.proofs.Tests.{and_left, and_right}
 use Rattle.icgem_words.specs.Words.{on_first, pieces}
 use Rattle.icgem_decimal.specs.Decimal.{is_digit, all_digits, unsigned}
@@ -129,12 +129,3 @@ module _ (parts : ℕ → Bool) where
 
     pub part_before : take end text ≡ before parts text
     part_before = rw e (before_take text)
-
-    pub part_after : take (length text - (end + 1)) (drop (end + 1) text) ≡ after parts text
-    part_after = take_all (length text - (end + 1)) (drop (end + 1) text) (omega (arith, length-drop (end + 1) text)) ∙ ap (λ (k : ℕ). drop k text) (add-one end ∙ ap suc e)
-
-    -- nothing parts the text
-    pub part_none : length text ≤ end → take (length text - end) (drop end text) ≡ after parts text
-    part_none h =
-        let past : length text ≤ suc (length (before parts text)) = omega arith in
-        ap (take (length text - end)) (drop_of_length-le text h) ∙ take_all (length text - end) [] (omega arith) ∙ sym (drop_of_length-le text past)

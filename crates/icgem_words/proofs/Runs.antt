@@ -1,13 +1,13 @@
 -- Bytes that pass a test, one after the other, as a loop goes along them.
 use mathlib.Core.Path.{◌≡◌, sym, ◌∙◌}
-use mathlib.Core.Bool.{Bool, true, false}
+use mathlib.Core.Bool.{Bool, true}
 use mathlib.Core.List.{List, [], ◌∷◌, ◌++◌}
 use Prim.Native.Nat.{ℕ, suc, ◌+◌, ◌-◌, ◌≤◌, ◌<◌}
 use native.Mathlib.Omega.{arith}
 use lib.ListN.{length, get_or, drop, length-drop, take-append-drop}
 use lib.Seq.{take-suc, get_or-drop, drop-drop}
 use Rattle.whole.proofs.Tests.{and_left, and_right}
-use Rattle.icgem_words.specs.Inner.{part, all_of, Run}
+use Rattle.icgem_words.specs.Inner.{part, all_of}
 
 -- ---- parts of a text
 -- a text from a place on, cut at another
@@ -62,9 +62,3 @@ module _ {test : ℕ → Bool} {text : List ℕ} {from at : ℕ} (p : Passed tes
     within = omega arith;
     passed = rw (part_more text from at p.low h) (all_append test (part from at text) (get_or text at 0 ∷ []) p.passed (all_one test (get_or text at 0) e));
   }
-
-  pub run_stops : test (get_or text at 0) ≡ false → Run test text from at
-  run_stops e = record { low = p.low; within = p.within; passed = p.passed; stops = λ h. e }
-
-  pub run_ends : length text ≤ at → Run test text from at
-  run_ends h = record { low = p.low; within = p.within; passed = p.passed; stops = λ l. absurd (omega arith) }

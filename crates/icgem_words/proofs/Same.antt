@@ -2,12 +2,11 @@
 use mathlib.Core.Path.{◌≡◌, refl, sym, subst, ◌∙◌}
 use mathlib.Core.Bool.{Bool, true, false}
 use mathlib.Core.List.{List, [], ◌∷◌}
-use Prim.Native.Nat.{ℕ, ◌+◌, ◌≤◌, ◌<◌}
-use native.Mathlib.Numerals.{add-one}
+use Prim.Native.Nat.{ℕ, ◌≤◌}
 use borrow.Author.Tests.{eqb-true, eq-eqb}
 use lib.Dec.{T, eqb}
-use lib.ListN.{length, get_or, take}
-use lib.Seq.{take-suc, take_all}
+use lib.ListN.{length, take}
+use lib.Seq.{take_all}
 use Rattle.whole.proofs.Tests.{and_left, and_right}
 use Rattle.icgem_words.specs.Words.{same_word}
 
@@ -32,10 +31,6 @@ other_not_same w v h = by_test (same_word w v) refl
     by_test : (t : Bool) → same_word w v ≡ t → same_word w v ≡ false
     by_test true e = absurd (h (same_equal w v e))
     by_test false e = e
-
--- equal up to a place, and at it
-pub take_more : (w v : List ℕ) (i : ℕ) → i < length w → i < length v → take i w ≡ take i v → get_or w i 0 ≡ get_or v i 0 → take (i + 1) w ≡ take (i + 1) v
-take_more w v i h l e g = rw (add-one i, take-suc w i 0 h, take-suc v i 0 l, e, g)
 
 pub take_equal : (w v : List ℕ) (i : ℕ) → length w ≤ i → length v ≤ i → take i w ≡ take i v → w ≡ v
 take_equal w v i h l e = sym (take_all i w h) ∙ e ∙ take_all i v l
