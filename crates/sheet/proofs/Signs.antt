@@ -1,4 +1,4 @@
--- What the machine reads back of a call's result, whose range is `c.f.ok`.
+-- What the machine reads back of a call's result, whose range is `c.f.type_inv`.
 use mathlib.Core.Path.{◌≡◌, ◌∙◌}
 use Prim.Native.Nat.{◌^◌, ◌<◌}
 use lib.IntN.{ℤ}
