@@ -13,6 +13,7 @@ fn main(rt: HostRuntime) {
     if rt.write_all(&text[..length]).is_ok() {
         return;
     }
-    // A status of its own would be another output: a line on standard error tells, as ever.
-    rt.eprintln("steptwo: the output could not be written").is_ok();
+    // The status is 0 all the same, so a line on standard error has to tell.
+    rt.eprintln("steptwo: the output could not be written")
+        .is_ok();
 }
