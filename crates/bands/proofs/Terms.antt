@@ -6,7 +6,7 @@ use native.Mathlib.Nat.{mul-le-mul_left, mul-le-mul_right}
 use native.Mathlib.Omega.{arith}
 use lib.IntN.{ℤ, pos, neg_ℤ, nat_abs, ◌+ℤ◌, ◌-ℤ◌, ◌*ℤ◌}
 use mir.Syntax.{w64}
-use mir.Val.{SFits, to_z, of_z}
+use mir.Val.{to_z, of_z}
 use mir.Facts.{to_z-of_z}
 use Rattle.whole.proofs.Machine as machine
 use Rattle.whole.proofs.Parts.{fits_abs, abs_neg, abs_sum, abs_product}
@@ -20,9 +20,6 @@ use Rattle.bands.specs.Bands.{Coefficient, C20, C21, S21, C22, S22, of_diurnal, 
 -- what the machine reads of a number that fits, and of its negative
 pub read : (z : ℤ) → nat_abs z ≤ 2 ^ 62 → to_z w64 (of_z w64 z) ≡ z
 read z h = to_z-of_z (fits_abs w64 z (omega arith))
-
-pub minus_fits : (z : ℤ) → nat_abs z ≤ 2 ^ 24 → SFits w64 (pos 0 -ℤ to_z w64 (of_z w64 z))
-minus_fits z h = machine.minus_fits w64 (of_z w64 z) (read z (omega arith)) (omega arith)
 
 pub minus_read : (z : ℤ) → nat_abs z ≤ 2 ^ 24 → to_z w64 (of_z w64 (pos 0 -ℤ to_z w64 (of_z w64 z))) ≡ neg_ℤ z
 minus_read z h = machine.minus_read w64 (of_z w64 z) (read z (omega arith)) (omega arith)

@@ -10,7 +10,6 @@ use mir.Syntax.{w32}
 use mir.Val.{SFits}
 use Rattle.arguments.specs.declared.Multipliers.{Multipliers}
 use Rattle.whole.proofs.Parts.{up, dn, up_le, dn_le, same, sum, difference, abs}
-use Rattle.whole.proofs.Machine.{sum_fits}
 use Rattle.whole.proofs.Tests.{and_left, and_right}
 use Rattle.doodson.specs.Doodson.{first, other, writable}
 
@@ -53,9 +52,6 @@ module _ (z : ℤ) (h : other z ≡ true) where
 
   pub raised_small : nat_abs (z +ℤ pos 5) ≤ 9
   raised_small = omega (arith, abs (z +ℤ pos 5), raised_up)
-
-  pub raised-fits : SFits w32 (z +ℤ pos 5)
-  raised-fits = sum_fits w32 z (pos 5) (omega (arith, abs z, other_parts z h))
 
   pub raised_back : pos (nat_abs (z +ℤ pos 5)) -ℤ pos 5 ≡ z
   raised_back = let r = raised_up in same (pos (nat_abs (z +ℤ pos 5)) -ℤ pos 5) z

@@ -30,9 +30,6 @@ pub record Upto (chosen : Multipliers → Bool) (W : ℕ → ℤ) (phases : Phas
   pub ahead : (j : ℕ) → n ≤ j → kept l j ≡ kept held j
 
 module _ (chosen : Multipliers → Bool) (W : ℕ → ℤ) (phases : Phases) (held : List ℤ) where
-  pub upto_none : length held ≡ 49 → Upto chosen W phases held held 0
-  upto_none long = record { long = long; passed = λ j h. absurd (omega arith); ahead = λ j h. refl }
-
   module _ (l : List ℤ) (n : ℕ) (u : Upto chosen W phases held l n) where
     -- one line more, which is renewed
     pub upto_renewed : {v : ℤ} → chosen (multipliers_at n) ≡ true → n < 49 → v ≡ W (line_phase phases n) → Upto chosen W phases held (set l n v) (n + 1)

@@ -93,17 +93,9 @@ module _ (f : Printed → ℤ) (most : (i : ℕ) → nat_abs (f (line_at i)) ≤
   amplitude_read = to_z-of_z amplitude_fits ∙ in_16_bits
 
 module _ (l : List ℤ) (i : ℕ) (h : i < 49) where
-  pub first_fits : l ≡ firsts → SFits w64 (to_z w16 (of_z w16 (get_or l i (pos 0))))
-  unfolding firsts
-  first_fits = amplitude_fits (λ (l : Printed). l.first) (λ i. (amplitudes_small i).0) l i h
-
   pub first_read : l ≡ firsts → to_z w64 (of_z w64 (to_z w16 (of_z w16 (get_or l i (pos 0))))) ≡ (line_at i).first
   unfolding firsts
   first_read = amplitude_read (λ (l : Printed). l.first) (λ i. (amplitudes_small i).0) l i h
-
-  pub second_fits : l ≡ seconds → SFits w64 (to_z w16 (of_z w16 (get_or l i (pos 0))))
-  unfolding seconds
-  second_fits = amplitude_fits (λ (l : Printed). l.second) (λ i. (amplitudes_small i).1) l i h
 
   pub second_read : l ≡ seconds → to_z w64 (of_z w64 (to_z w16 (of_z w16 (get_or l i (pos 0))))) ≡ (line_at i).second
   unfolding seconds
