@@ -23,12 +23,11 @@ module _ (c : Start) where
   ready-s at h = record { room = omega (arith, c.requires.s-room); range = c.requires.s_range; small = small-s d c.requires.small }
 
 pub returns : goal.returns
-returns c =
-    (
-      c.add_run.ensures
-          ∙ ap (λ (by : List ℤ). added_from 3 by c.args.c.now) (read_c (d (goal.at.returns c).Start) c.requires.small)
-          ∙ added_c (d (goal.at.returns c).Start) c.args.c.now,
-      c.add_run-2.ensures
-          ∙ ap (λ (by : List ℤ). added_from 4 by c.args.s.now) (read_s (d (goal.at.returns c).Start) c.requires.small)
-          ∙ added_s (d (goal.at.returns c).Start) c.args.s.now,
-    )
+returns c = (
+  c.add_run.ensures
+      ∙ ap (λ (by : List ℤ). added_from 3 by c.args.c.now) (read_c (d (goal.at.returns c).Start) c.requires.small)
+      ∙ added_c (d (goal.at.returns c).Start) c.args.c.now,
+  c.add_run-2.ensures
+      ∙ ap (λ (by : List ℤ). added_from 4 by c.args.s.now) (read_s (d (goal.at.returns c).Start) c.requires.small)
+      ∙ added_s (d (goal.at.returns c).Start) c.args.s.now,
+)

@@ -12,13 +12,11 @@ use Rattle.refusals.proofs.Outcomes.{gives_new, gives_kept}
 use Rattle.sheet.specs.Sheet.{place_count}
 use Rattle.surfgimlet.specs.Calls.{ocean_refusal, ocean_tide}
 use Rattle.surfgimlet.proofs.OceanTide.{passing}
-use Rattle.std.proofs.Common.{rules}
 use Rattle.surfgimlet.proofs.ocean_tide.Goals as goal
-use Rattle.surfgimlet.proofs.ocean_tide.Goals.{After-first_of-answer, In-Accepted}
+use Rattle.surfgimlet.proofs.ocean_tide.Goals.{After-first_of-answer}
 
 -- once the first refusal is known
 module _ (c : After-first_of-answer) where
-
   abbrev sheet : List ℕ
   sheet = c.args.sheet.now
 
@@ -35,24 +33,21 @@ module _ (c : After-first_of-answer) where
   unfolding ocean_refusal
   number_is = c.first_of-answer.ensures ∙ rw (c.tested.ensures, c.tested-2.ensures) refl
 
-passed : (c : In-Accepted) → number c.before.before ≡ 0
-passed c = sym (number_is c.before.before) ∙ ap answer_number c.enum_told.given.1
-
-enum_told : tie.Need-enum-told
-enum_told c = search rules
-
 pub add_tide-requires : goal.add_tide-requires
 add_tide-requires c =
-    let p = passing _ _ _ _ (passed (goal.at.add_tide-requires c).In-Accepted) in
+    let h = (goal.at.add_tide-requires c).After-first_of-answer in
+    let p = passing _ _ _ _ (sym (number_is h) ∙ ap answer_number c.in-Accepted.is) in
     (record { laid = c.layout_of-l.ensures; own = p.0 }, p.1)
 
 pub returns-in-Accepted : goal.returns-in-Accepted
 unfolding ocean_tide
 returns-in-Accepted c =
+    let h = (goal.at.returns-in-Accepted c).After-first_of-answer in
     let t = c.add_tide.ensures in
-    gives_new _ _ (new-c (goal.at.returns-in-Accepted c).After-first_of-answer) (new-s (goal.at.returns-in-Accepted c).After-first_of-answer) (number_is (goal.at.returns-in-Accepted c).After-first_of-answer) (passed (goal.at.returns-in-Accepted c).In-Accepted) t.list_c t.list_s
+    gives_new _ _ (new-c h) (new-s h) (number_is h) (sym (number_is h) ∙ ap answer_number c.in-Accepted.is) t.list_c t.list_s
 
 pub returns-in_default : goal.returns-in_default
 unfolding ocean_tide
 returns-in_default c =
-    gives_kept _ _ _ _ (number_is (goal.at.returns-in_default c).After-first_of-answer) (λ e. refusal_not_zero c.enum-told2.given.0.0 (sym (ap answer_number c.enum-told2.given.1) ∙ number_is (goal.at.returns-in_default c).After-first_of-answer ∙ e))
+    let h = (goal.at.returns-in_default c).After-first_of-answer in
+    gives_kept _ _ _ _ (number_is h) (λ e. refusal_not_zero c.in_default.field-0 (sym (ap answer_number c.in_default.is) ∙ number_is h ∙ e))
