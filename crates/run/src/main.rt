@@ -254,7 +254,10 @@ fn ocean_tide(rt: &HostRuntime, input: &mut StdinLock, n: u32, c: &mut [i64], s:
     let phases = replay::read_phases(input);
     let mut sheet = [0u8; 65536];
     let count = replay::read_bytes(input, &mut sheet);
-    write_answer(rt, surfgimlet::ocean_tide(n, c, s, &sheet[..count], phases, frame));
+    write_answer(
+        rt,
+        surfgimlet::ocean_tide(n, c, s, &sheet[..count], phases, frame),
+    );
 }
 
 fn pole_tide(rt: &HostRuntime, input: &mut StdinLock, n: u32, c: &mut [i64], s: &mut [i64]) {
@@ -273,7 +276,14 @@ fn called(rt: &HostRuntime, input: &mut StdinLock, call: u8, n: u32, c: &mut [i6
 }
 
 // A call over lists of these lengths.
-fn over_lists(rt: &HostRuntime, input: &mut StdinLock, call: u8, n: u32, c: &mut [i64], s: &mut [i64]) {
+fn over_lists(
+    rt: &HostRuntime,
+    input: &mut StdinLock,
+    call: u8,
+    n: u32,
+    c: &mut [i64],
+    s: &mut [i64],
+) {
     replay::read_entries(input, c);
     replay::read_entries(input, s);
     called(rt, input, call, n, c, s);
