@@ -11,7 +11,7 @@ cd "$(dirname "${BASH_SOURCE[0]}")"
 for tool in rt ${CC%% *}; do command -v "$tool" >/dev/null || { echo "missing: $tool" >&2; exit 1; }; done
 
 mkdir -p target "$prefix/include" "$prefix/lib/pkgconfig" "$prefix/share/surfgimlet"
-(cd crates/boundary && exec rt lib) >target/install.log 2>&1 || { tail -n 20 target/install.log >&2; exit 1; }
+(cd crates/boundary && exec rt lib --cpu x86-64) >target/install.log 2>&1 || { tail -n 20 target/install.log >&2; exit 1; }
 
 lib=$prefix/lib
 number=$(sed -n 's/^#define SURFGIMLET_VERSION //p' include/surfgimlet.h)

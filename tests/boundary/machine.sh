@@ -29,5 +29,5 @@ BUILD=target/boundary
 # prove and write the archive of a crate, or say why not
 archive() {
     mkdir -p target
-    (cd "crates/$1" && exec rt lib) >"target/lib-$1.log" 2>&1 || { tail -n 20 "target/lib-$1.log"; exit 1; }
+    (cd "crates/$1" && exec rt lib --cpu x86-64) >"target/lib-$1.log" 2>&1 || { tail -n 20 "target/lib-$1.log"; exit 1; }
 }
