@@ -1,7 +1,7 @@
 -- All lines selected are step two without a selection. And one rule for printed and own lines: the printed lines lent as records, with the table's
 -- numbers, are step two of all lines in the anelastic model.
 use mathlib.Core.List.{List, map, ◌++◌}
-use mathlib.Core.Path.{◌≡◌, refl, sym, ap, ◌∙◌}
+use mathlib.Core.Path.{◌≡◌, refl, sym, ◌∙◌}
 use Prim.Native.Nat.{ℕ, ◌<◌}
 use lib.IntN.{ℤ, pos}
 use Rattle.arguments.specs.declared.Phases.{Phases}

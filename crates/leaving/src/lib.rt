@@ -4,11 +4,11 @@
 #![tactic(auto)]
 
 ghost use Rattle.doodson.specs.Doodson.{tells_read, tells_written};
-ghost use Rattle.icgem_read.specs.Told.{tells as tellsFile};
-ghost use Rattle.icgem_write.specs.Outcome.{tells as tellsWrote};
-ghost use Rattle.lines.specs.Lines.{tells as tellsSought};
-ghost use Rattle.permanent.specs.Systems.{tells as tellsMoved};
-ghost use Rattle.selection.specs.Selection.{tells as tellsNamed};
+ghost use Rattle.icgem_read.specs.Told.{tells as tells_file};
+ghost use Rattle.icgem_write.specs.Outcome.{tells as tells_wrote};
+ghost use Rattle.lines.specs.Lines.{tells as tells_sought};
+ghost use Rattle.permanent.specs.Systems.{tells as tells_moved};
+ghost use Rattle.selection.specs.Selection.{tells as tells_named};
 ghost use Rattle.leaving.specs.Leaving.{listed_of, found, head_numbers, numbers_of, Leaves};
 
 use choices::PermanentSystem;
@@ -21,7 +21,7 @@ use refusals::refusal_number;
 use selection::Named;
 
 pub fn leave_moved(told: Moved, moved: &mut i64) -> u32
-    ensures { Leaves (tellsMoved told) moved.old result moved.new }
+    ensures { Leaves (tells_moved told) moved.old result moved.new }
 {
     match told {
         Moved::C20(c20) => {
@@ -33,7 +33,7 @@ pub fn leave_moved(told: Moved, moved: &mut i64) -> u32
 }
 
 pub fn leave_named(told: Named, lines: &mut u32) -> u32
-    ensures { Leaves (tellsNamed told) lines.old result lines.new }
+    ensures { Leaves (tells_named told) lines.old result lines.new }
 {
     match told {
         Named::Lines(named) => {
@@ -45,7 +45,7 @@ pub fn leave_named(told: Named, lines: &mut u32) -> u32
 }
 
 pub fn leave_wrote(told: Wrote, written: &mut usize) -> u32
-    ensures { Leaves (tellsWrote told) written.old result written.new }
+    ensures { Leaves (tells_wrote told) written.old result written.new }
 {
     match told {
         Wrote::Bytes(count) => {
@@ -64,7 +64,7 @@ pub fn leave_head(
     radius: &mut u64,
     system: &mut u32,
 ) -> u32
-    ensures { Leaves (numbers_of (tellsFile told)) (head_numbers degree.old constant.old radius.old system.old) result (head_numbers degree.new constant.new radius.new system.new) }
+    ensures { Leaves (numbers_of (tells_file told)) (head_numbers degree.old constant.old radius.old system.old) result (head_numbers degree.new constant.new radius.new system.new) }
 {
     match told {
         FileTold::Head(head) => {
@@ -105,7 +105,7 @@ pub fn leave_number(told: Written, number: &mut u32) -> u32
 }
 
 pub fn leave_line(told: Sought, index: &mut usize, first: &mut i64, second: &mut i64) -> u32
-    ensures { Leaves (tellsSought told) (found index.old first.old second.old) result (found index.new first.new second.new) }
+    ensures { Leaves (tells_sought told) (found index.old first.old second.old) result (found index.new first.new second.new) }
 {
     match told {
         Sought::Line {

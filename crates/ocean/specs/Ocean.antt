@@ -6,7 +6,7 @@ use Rattle.places.specs.Places.{correction}
 use Rattle.sheet.specs.Sheet.{c_cos, s_cos, c_sin, s_sin}
 use Rattle.tides.specs.Tides.{fcos, fsin}
 
--- "d_c = nearest of (sum over tides of fcos*Ccos + fsin*Csin)/2^30; d_s alike", of place j
+-- "dC = nearest of (sum over tides of fcos*Ccos + fsin*Csin)/2^30; dS alike", of place j
 unfoldable pub d_c : List ℕ → Phases → Frame → ℕ → ℤ
 d_c s phases frame = correction s frame (fcos s phases) (fsin s phases) c_cos c_sin
 

@@ -20,7 +20,7 @@ skipped CentreOfMass n = eqb n 1
 unfoldable pub unless_skipped : List ℕ → Frame → ℕ → ℤ → ℤ
 unless_skipped s frame j z = cond (skipped frame (degree s j)) (pos 0) z
 
--- "d_c = nearest of (sum over tides of fcos*Ccos + fsin*Csin)/2^30; d_s alike"
+-- "dC = nearest of (sum over tides of fcos*Ccos + fsin*Csin)/2^30; dS alike"
 unfoldable pub correction : List ℕ → Frame → (ℕ → ℤ) → (ℕ → ℤ) → ℕ → ℕ → ℕ → ℤ
 correction s frame C S p q j = unless_skipped s frame j (nearest (place_sum s C S p q j) (2 ^ 30))
 

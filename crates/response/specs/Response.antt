@@ -1,4 +1,4 @@
--- Document 01, "Step one": d_c and d_s times 10^15.
+-- Document 01, "Step one": dC and dS times 10^15.
 use Rattle.std.specs.Prelude.{[], ◌∷◌, ◌^◌, Float}
 use Rattle.doubles.specs.Doubles.{◌*·◌, ◌+·◌, ◌-·◌, number}
 use Rattle.constants.specs.declared.Love.{Love}
@@ -12,14 +12,14 @@ use Rattle.response.specs.declared.Changes.{Changes}
 abbrev pub counted : Float → Float
 counted x = x *· number (10 ^ 15)
 
--- "d_c = kR*P + kI*Q; d_s = kR*Q - kI*P."
+-- "dC = kR*P + kI*Q; dS = kR*Q - kI*P."
 abbrev pub d_c : Love → Pair → Float
 d_c k x = counted (k.re *· x.p +· k.im *· x.q)
 
 abbrev pub d_s : Love → Pair → Float
 d_s k x = counted (k.re *· x.q -· k.im *· x.p)
 
--- "Degree 4, m = 0..2: the same from degree 2's P and Q with k+ real: d_c = k+*P, d_s = k+*Q."
+-- "Degree 4, m = 0..2: the same from degree 2's P and Q with k+ real: dC = k+*P, dS = k+*Q."
 abbrev pub d_c4 : Float → Pair → Float
 d_c4 plus x = counted (plus *· x.p)
 

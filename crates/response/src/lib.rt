@@ -11,7 +11,7 @@ use potential::Potential;
 // A count is 10^-15.
 const COUNTS: f64 = 1000000000000000.0;
 
-// d_c and d_s in counts, before rounding, at the places 20, 21, 22, 30, 31, 32, 33, 40, 41, 42; d_s is 0 at order 0.
+// dC and dS in counts, before rounding, at the places 20, 21, 22, 30, 31, 32, 33, 40, 41, 42; dS is 0 at order 0.
 #[derive(Clone, Copy)]
 pub struct Changes {
     pub c: [f64; 10],

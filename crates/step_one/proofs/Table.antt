@@ -20,7 +20,7 @@ use Rattle.response.specs.declared.Changes.{Changes}
 use Rattle.step_one.specs.StepOne.{Counts, floats, all_countable, measured, corrections}
 use Rattle.step_one.proofs.Each.{each, all_true}
 
--- every d_c and d_s times 10^15 lies strictly between -2^52 and 2^52
+-- every dC and dS times 10^15 lies strictly between -2^52 and 2^52
 pub record Countable (f : Changes) : Type 0 where
   pub in_c : (k : ℕ) → k < length f.c → T (is_countable (get_or f.c k nan))
   pub in-s : (k : ℕ) → k < length f.s → T (is_countable (get_or f.s k nan))
@@ -31,7 +31,7 @@ pub record SunRefused (moon sun : Body) (number : ℕ) : Type 0 where
   pub moon_at : sighted moon ≡ accepted m
   pub sun_refused : sighted sun ≡ refused number
 
--- both are seen, and some d_c or d_s times 10^15 is out of range
+-- both are seen, and some dC or dS times 10^15 is out of range
 pub record TooLarge (moon sun : Body) (love : LoveModel) : Type 0 where
   pub m : Direction
   pub s : Direction
@@ -130,7 +130,7 @@ module _ (moon sun : Body) (love : LoveModel) where
           let g : s ≡ s' = cc in
           subst (λ (x : Direction). Countable (floats moon x sun s' love)) e (subst (λ (x : Direction). Countable (floats moon m sun x love)) g k)
 
-  -- 3, 4, 5: "the Moon is tested .. before the Sun"; 6: else "a step-one d_c or d_s times 10^15 .. not strictly between -2^52 and 2^52"
+  -- 3, 4, 5: "the Moon is tested .. before the Sun"; 6: else "a step-one dC or dS times 10^15 .. not strictly between -2^52 and 2^52"
   pub step_one_table :
       ((number : ℕ) → number < 6 → corrections moon sun love ≡ refused number ↔ ((sighted moon ≡ refused number) ⊎ SunRefused moon sun number))
       × (corrections moon sun love ≡ refused 6 ↔ TooLarge moon sun love)

@@ -31,7 +31,7 @@ pub record Counts : Type 0 where
   pub c : List ℤ
   pub s : List ℤ
 
--- d_c and d_s times 10^15: the Moon at m, the Sun at s
+-- dC and dS times 10^15: the Moon at m, the Sun at s
 unfoldable pub floats : Body → Direction → Body → Direction → LoveModel → Changes
 floats moon m sun s love = changes (loves love) loves3 (shared (terms moon.ratio m) (terms sun.ratio s))
 
@@ -56,7 +56,7 @@ counts_s xs =
 unfoldable pub without_permanent : LoveModel → List ℤ → List ℤ
 without_permanent love by = set by 0 (get_or by 0 (pos 0) -ℤ permanent_part love)
 
--- 6: "a step-one d_c or d_s times 10^15, before the permanent part, not strictly between -2^52 and 2^52"
+-- 6: "a step-one dC or dS times 10^15, before the permanent part, not strictly between -2^52 and 2^52"
 unfoldable pub measured : Changes → LoveModel → Told Counts
 measured f love =
     cond (all_countable f.c && all_countable f.s) (accepted (record { c = without_permanent love (counts_c f.c); s = counts_s f.s })) (refused 6)

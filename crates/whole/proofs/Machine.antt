@@ -36,7 +36,7 @@ difference_fits w a b h = fits_abs w (a -ℤ b) (omega (arith, abs_difference a 
 abbrev pub read : ℤ → ℤ
 read z = to_z w64 (of_z w64 z)
 
--- what the machine reads back of a call's result, whose range is `c.f.ok`
+-- what the machine reads back of a call's result, whose range is `c.f.type_inv`
 pub back : (w : Width) (z : ℤ) → mag z < 2 ^ hbits w → to_z w (of_z w z) ≡ z
 back w z h = to_z-of_z (record { sfits = h })
 

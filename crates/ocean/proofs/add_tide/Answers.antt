@@ -1,4 +1,4 @@
--- The factors in the two lists are fcos and fsin, so the corrections added from them are d_c and d_s.
+-- The factors in the two lists are fcos and fsin, so the corrections added from them are dC and dS.
 use mathlib.Core.List.{List}
 use mathlib.Core.Path.{◌≡◌, refl, ◌∙◌}
 use Prim.Native.Nat.{ℕ}
