@@ -6,8 +6,7 @@ use native.Mathlib.Omega.{arith}
 use lib.ListN.{get_or}
 use Rattle.refusals.specs.declared.Refusal.{Refusal}
 use Rattle.refusals.specs.declared.Refusal.TheVariants.{FieldShape, FieldRange, NotFinite, BodyRange, NotUnit, StepOneRange, SheetLength, SheetValue, SheetDegree, NotDoodson, NoSuchLine, RecordCount, RecordValue, SelectionValue, PoleOffset, TwinLines, FileForm, TwinPlaces, FileRange, NoSuchSystem, ShortOutput}
-use Rattle.refusals.specs.declared.Answer.{Answer}
-use Rattle.refusals.specs.declared.Answer.TheVariants.{Accepted, Refused}
+use Rattle.std.specs.Prelude.{Result, Ok, Err}
 use Rattle.refusals.specs.Numbers.{refusal_number, answer_number}
 
 pub refusal_not_zero : (r : Refusal) → refusal_number r ≡ 0 → ⊥
@@ -65,8 +64,8 @@ pub same_refusal : (r q : Refusal) → refusal_number r ≡ refusal_number q →
 same_refusal r q e = sym (refusal_again r) ∙ ap refusal_of e ∙ refusal_again q
 
 -- an answer is known by its number
-pub same_answer : (a b : Answer) → answer_number a ≡ answer_number b → a ≡ b
-same_answer Accepted Accepted e = refl
-same_answer Accepted (Refused q) e = absurd (refusal_not_zero q (sym e))
-same_answer (Refused r) Accepted e = absurd (refusal_not_zero r e)
-same_answer (Refused r) (Refused q) e = ap Refused (same_refusal r q e)
+pub same_answer : (a b : Result Unit Refusal) → answer_number a ≡ answer_number b → a ≡ b
+same_answer (Ok x) (Ok y) e = refl
+same_answer (Ok x) (Err q) e = absurd (refusal_not_zero q (sym e))
+same_answer (Err r) (Ok y) e = absurd (refusal_not_zero r e)
+same_answer (Err r) (Err q) e = ap Err (same_refusal r q e)
