@@ -3,8 +3,15 @@ use Rattle.std.specs.Prelude.{ℕ, ◌^◌, ℤ, pos, ◌+ℤ◌, ◌-ℤ◌, �
 use Rattle.std.specs.Int.Signed.{shr_z}
 use Rattle.arguments.specs.declared.Argument.{Argument}
 use Rattle.arguments.specs.declared.Argument.TheVariants.{Tau, S, H, P, Np, Ps}
-use Rattle.arguments.specs.declared.Multipliers.{Multipliers}
-use Rattle.arguments.specs.declared.Phases.{Phases}
+use Rattle.arguments.specs.declared.Arguments.{Arguments}
+
+-- the arguments as phases
+abbrev pub Phases : Type 0
+Phases = Arguments ℕ
+
+-- a line's multipliers of the arguments
+abbrev pub Multipliers : Type 0
+Multipliers = Arguments ℤ
 
 -- z modulo n, for an n above 0: z less n times the floor of z / n. It is 0 .. n - 1, for z below 0 too.
 unfoldable pub modulo : ℤ → ℕ → ℕ

@@ -16,28 +16,23 @@ pub enum Argument {
     Ps,
 }
 
-// The arguments as phases, a turn being 2^32; C passes them as they stand.
+// A value of each argument; C passes it as it stands.
 #[repr(C)]
-#[derive(Clone, Copy)]
-pub struct Phases {
-    pub tau: u32,
-    pub s: u32,
-    pub h: u32,
-    pub p: u32,
-    pub np: u32,
-    pub ps: u32,
+#[derive(Clone, Copy, Debug, PartialEq, Eq)]
+pub struct Arguments<T> {
+    pub tau: T,
+    pub s: T,
+    pub h: T,
+    pub p: T,
+    pub np: T,
+    pub ps: T,
 }
 
+// The arguments as phases, a turn being 2^32.
+pub type Phases = Arguments<u32>;
+
 // A line's multipliers of the arguments.
-#[derive(Clone, Copy)]
-pub struct Multipliers {
-    pub tau: i32,
-    pub s: i32,
-    pub h: i32,
-    pub p: i32,
-    pub np: i32,
-    pub ps: i32,
-}
+pub type Multipliers = Arguments<i32>;
 
 // k modulo a turn. A turn is added to it, which makes it positive.
 fn wrapped(k: i32) -> u32

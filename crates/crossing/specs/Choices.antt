@@ -2,7 +2,7 @@
 use Rattle.std.specs.Prelude.{List, [], ◌∷◌, ℕ, zero, suc, ℤ, pos, get_or}
 use Rattle.arguments.specs.declared.Argument.{Argument}
 use Rattle.arguments.specs.declared.Argument.TheVariants.{Tau, S, H, P, Np, Ps}
-use Rattle.arguments.specs.declared.Multipliers.{Multipliers}
+use Rattle.arguments.specs.Phase.{Multipliers}
 use Rattle.bodies.specs.declared.Body.{Body}
 use Rattle.bodies.specs.declared.Place.{Place}
 use Rattle.bodies.specs.declared.Place.TheVariants.{Rectangular, Directional}

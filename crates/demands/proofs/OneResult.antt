@@ -3,7 +3,7 @@ use mathlib.Core.Path.{◌≡◌, refl, sym, ap, ◌∙◌}
 use mathlib.Core.List.{List}
 use Prim.Native.Nat.{ℕ}
 use lib.IntN.{ℤ}
-use Rattle.arguments.specs.declared.Multipliers.{Multipliers}
+use Rattle.arguments.specs.Phase.{Multipliers}
 use Rattle.refusals.specs.declared.Answer.{Answer}
 use Rattle.refusals.specs.Numbers.{answer_number}
 use Rattle.refusals.specs.Told.{Told}
