@@ -34,30 +34,23 @@ pub type Phases = Arguments<u32>;
 // A line's multipliers of the arguments.
 pub type Multipliers = Arguments<i32>;
 
-// k modulo a turn. A turn is added to it, which makes it positive.
-fn wrapped(k: i32) -> u32
-    ensures { result ≡ modulo k (2 ^ 32) }
-{
-    ((k as i64 + 4294967296) as u64 % 4294967296) as u32
-}
-
 // k times the phase a, modulo a turn.
 fn multiple(k: i32, a: u32) -> u32
     ensures { result ≡ modulo (k *ℤ pos a) (2 ^ 32) }
 {
-    (wrapped(k) as u64 * a as u64 % 4294967296) as u32
+    k.cast_unsigned().wrapping_mul(a)
 }
 
 // The phase of the line with multipliers m, at the arguments b.
 pub fn phase_of(m: Multipliers, b: Phases) -> u32
     ensures { result ≡ phase m b }
 {
-    let sum = multiple(m.tau, b.tau);
-    let sum = std::num::wrapping_add_u32(sum, multiple(m.s, b.s));
-    let sum = std::num::wrapping_add_u32(sum, multiple(m.h, b.h));
-    let sum = std::num::wrapping_add_u32(sum, multiple(m.p, b.p));
-    let sum = std::num::wrapping_add_u32(sum, multiple(m.np, b.np));
-    std::num::wrapping_add_u32(sum, multiple(m.ps, b.ps))
+    multiple(m.tau, b.tau)
+        .wrapping_add(multiple(m.s, b.s))
+        .wrapping_add(multiple(m.h, b.h))
+        .wrapping_add(multiple(m.p, b.p))
+        .wrapping_add(multiple(m.np, b.np))
+        .wrapping_add(multiple(m.ps, b.ps))
 }
 
 // A line's multiplier of an argument.
@@ -79,7 +72,7 @@ pub fn multiplier_of(m: Multipliers, argument: Argument) -> i32
 fn moved_by(phase: u32, amount: i32) -> u32
     ensures { result ≡ moved_by phase amount }
 {
-    std::num::wrapping_add_u32(phase, wrapped(amount))
+    phase.wrapping_add_signed(amount)
 }
 
 // The phases with one of them moved.
@@ -87,26 +80,30 @@ fn moved_by(phase: u32, amount: i32) -> u32
 pub fn moved_phases(b: Phases, argument: Argument, amount: i32) -> Phases
     ensures { result ≡ moved_phases b argument amount }
 {
-    let mut moved = b;
     match argument {
-        Argument::Tau => {
-            moved.tau = moved_by(b.tau, amount);
-        }
-        Argument::S => {
-            moved.s = moved_by(b.s, amount);
-        }
-        Argument::H => {
-            moved.h = moved_by(b.h, amount);
-        }
-        Argument::P => {
-            moved.p = moved_by(b.p, amount);
-        }
-        Argument::Np => {
-            moved.np = moved_by(b.np, amount);
-        }
-        Argument::Ps => {
-            moved.ps = moved_by(b.ps, amount);
-        }
+        Argument::Tau => Phases {
+            tau: moved_by(b.tau, amount),
+            ..b
+        },
+        Argument::S => Phases {
+            s: moved_by(b.s, amount),
+            ..b
+        },
+        Argument::H => Phases {
+            h: moved_by(b.h, amount),
+            ..b
+        },
+        Argument::P => Phases {
+            p: moved_by(b.p, amount),
+            ..b
+        },
+        Argument::Np => Phases {
+            np: moved_by(b.np, amount),
+            ..b
+        },
+        Argument::Ps => Phases {
+            ps: moved_by(b.ps, amount),
+            ..b
+        },
     }
-    moved
 }
