@@ -3,10 +3,13 @@
 #![tactic(auto)]
 
 ghost use Rattle.std.specs.Prelude.{◌≡◌, ◌^◌, pos, ◌*ℤ◌};
-ghost use Rattle.arguments.specs.Phase.{modulo, phase, multiplier_of, moved_by, moved_phases};
+ghost use Rattle.arguments.specs.Phase.{modulo, phase, multiplier_of, moved_by, moved_phases, listed, unlisted, argument_of};
+ghost use Rattle.choices.specs.Numbers.{told};
+
+use choices::NoSuchChoice;
 
 // The name of an argument.
-#[derive(Clone, Copy)]
+#[derive(Clone, Copy, Debug, PartialEq, Eq)]
 pub enum Argument {
     Tau,
     S,
@@ -14,6 +17,25 @@ pub enum Argument {
     P,
     Np,
     Ps,
+}
+
+impl TryFrom<u32> for Argument {
+    type Error = NoSuchChoice;
+
+    ghost try_from_gives = { λ number r. told r ≡ argument_of number };
+
+    #[tactic(auto, using(choices::proofs::Choices::past_the_cases), unfolding(choices::specs::Numbers::chosen))]
+    fn try_from(number: u32) -> Result<Argument, NoSuchChoice> {
+        match number {
+            0 => Ok(Argument::Tau),
+            1 => Ok(Argument::S),
+            2 => Ok(Argument::H),
+            3 => Ok(Argument::P),
+            4 => Ok(Argument::Np),
+            5 => Ok(Argument::Ps),
+            _ => Err(NoSuchChoice),
+        }
+    }
 }
 
 // A value of each argument; C passes it as it stands.
@@ -33,6 +55,31 @@ pub type Phases = Arguments<u32>;
 
 // A line's multipliers of the arguments.
 pub type Multipliers = Arguments<i32>;
+
+// In the order of the arguments.
+impl From<[i32; 6]> for Multipliers {
+    ghost from_gives = { λ list m. m ≡ unlisted list };
+
+    fn from(list: [i32; 6]) -> Multipliers {
+        let [tau, s, h, p, np, ps] = list;
+        Arguments {
+            tau,
+            s,
+            h,
+            p,
+            np,
+            ps,
+        }
+    }
+}
+
+impl From<Multipliers> for [i32; 6] {
+    ghost from_gives = { λ m list. list ≡ listed m };
+
+    fn from(m: Multipliers) -> [i32; 6] {
+        [m.tau, m.s, m.h, m.p, m.np, m.ps]
+    }
+}
 
 // k times the phase a, modulo a turn.
 fn multiple(k: i32, a: u32) -> u32

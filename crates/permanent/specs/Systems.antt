@@ -26,8 +26,3 @@ above_tide_free Mean love = permanent_part love +ℤ neg_ℤ (pos 13914129)
 unfoldable pub moved_c20 : ℤ → PermanentSystem → PermanentSystem → LoveModel → Told ℤ
 moved_c20 c20 from to love =
     cond (is_entry c20) (accepted (c20 -ℤ above_tide_free from love +ℤ above_tide_free to love)) (refused 2)
-
--- the number and the value of each answer
-abbrev pub tells : Moved → Told ℤ
-tells (C20 c20) = accepted c20
-tells (Refused r) = refused (refusal_number r)
