@@ -5,11 +5,8 @@ use Rattle.choices.specs.declared.LoveModel.TheVariants.{Elastic, Anelastic}
 use Rattle.choices.specs.declared.PermanentSystem.{PermanentSystem}
 use Rattle.choices.specs.declared.PermanentSystem.TheVariants.{TideFree, Zero, Mean}
 use Rattle.refusals.specs.Told.{Told}
-use Rattle.refusals.specs.Numbers.{refusal_number}
 use Rattle.refusals.specs.Told.Told.{accepted, refused}
 use Rattle.limits.specs.Limits.{is_entry}
-use Rattle.permanent.specs.declared.Moved.{Moved}
-use Rattle.permanent.specs.declared.Moved.TheVariants.{C20, Refused}
 
 -- the permanent part: -4108147 elastic, -4200675 anelastic
 unfoldable pub permanent_part : LoveModel → ℤ
