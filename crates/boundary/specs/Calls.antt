@@ -15,7 +15,9 @@ use Rattle.permanent.specs.Systems.{moved_c20}
 use Rattle.surfgimlet.specs.Calls.{solid_tide, pole_tide, ocean_tide}
 use Rattle.choices.specs.declared.PermanentSystem.{PermanentSystem}
 use Rattle.crossing.specs.declared.GivenBody.{GivenBody}
-use Rattle.crossing.specs.Choices.{love_model, frame_of, permanent_system, argument_of, body_of}
+use Rattle.arguments.specs.Phase.{argument_of}
+use Rattle.choices.specs.Numbers.{love_model, frame_of, permanent_system}
+use Rattle.crossing.specs.Bodies.{body_of}
 
 -- a version's number, of its major, minor and patch number
 abbrev pub version_number : ℕ → ℕ → ℕ → ℕ
