@@ -1,6 +1,7 @@
 -- What a call leaves in lent memory: its answer's number, and the value that it tells.
 use Rattle.std.specs.Prelude.{List, ◌≡◌, ℕ, ℤ}
-use Rattle.arguments.specs.Phase.{Multipliers, listed}
+use Rattle.arguments.specs.declared.Multipliers.{Multipliers}
+use Rattle.arguments.specs.Phase.{listed}
 use Rattle.choices.specs.Numbers.{system_number}
 use Rattle.icgem_file.specs.declared.FileHead.{FileHead}
 use Rattle.lines.specs.Lines.{Found}
