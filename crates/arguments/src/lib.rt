@@ -3,10 +3,13 @@
 #![tactic(auto)]
 
 ghost use Rattle.std.specs.Prelude.{◌≡◌, ◌^◌, pos, ◌*ℤ◌};
-ghost use Rattle.arguments.specs.Phase.{modulo, phase, multiplier_of, moved_by, moved_phases};
+ghost use Rattle.arguments.specs.Phase.{modulo, phase, multiplier_of, moved_by, moved_phases, listed, unlisted, argument_of};
+ghost use Rattle.choices.specs.Numbers.{told};
+
+use choices::NoSuchChoice;
 
 // The name of an argument.
-#[derive(Clone, Copy)]
+#[derive(Clone, Copy, Debug, PartialEq, Eq)]
 pub enum Argument {
     Tau,
     S,
@@ -16,23 +19,73 @@ pub enum Argument {
     Ps,
 }
 
-// A value of each argument; C passes it as it stands.
-#[repr(C)]
-#[derive(Clone, Copy, Debug, PartialEq, Eq)]
-pub struct Arguments<T> {
-    pub tau: T,
-    pub s: T,
-    pub h: T,
-    pub p: T,
-    pub np: T,
-    pub ps: T,
+impl TryFrom<u32> for Argument {
+    type Error = NoSuchChoice;
+
+    ghost try_from_gives = { λ number r. told r ≡ argument_of number };
+
+    #[tactic(auto, using(choices::proofs::Choices::past_the_cases), unfolding(choices::specs::Numbers::chosen))]
+    fn try_from(number: u32) -> Result<Argument, NoSuchChoice> {
+        match number {
+            0 => Ok(Argument::Tau),
+            1 => Ok(Argument::S),
+            2 => Ok(Argument::H),
+            3 => Ok(Argument::P),
+            4 => Ok(Argument::Np),
+            5 => Ok(Argument::Ps),
+            _ => Err(NoSuchChoice),
+        }
+    }
 }
 
-// The arguments as phases, a turn being 2^32.
-pub type Phases = Arguments<u32>;
+// The arguments as phases, a turn being 2^32; C passes them as they stand. A type of its own beside `Multipliers`, since C's calls take no generic struct.
+#[repr(C)]
+#[derive(Clone, Copy, Debug, PartialEq, Eq)]
+pub struct Phases {
+    pub tau: u32,
+    pub s: u32,
+    pub h: u32,
+    pub p: u32,
+    pub np: u32,
+    pub ps: u32,
+}
 
-// A line's multipliers of the arguments.
-pub type Multipliers = Arguments<i32>;
+// A line's multipliers of the arguments; C passes those of a line of its own as they stand.
+#[repr(C)]
+#[derive(Clone, Copy, Debug, PartialEq, Eq)]
+pub struct Multipliers {
+    pub tau: i32,
+    pub s: i32,
+    pub h: i32,
+    pub p: i32,
+    pub np: i32,
+    pub ps: i32,
+}
+
+// In the order of the arguments.
+impl From<[i32; 6]> for Multipliers {
+    ghost from_gives = { λ list m. m ≡ unlisted list };
+
+    fn from(list: [i32; 6]) -> Multipliers {
+        let [tau, s, h, p, np, ps] = list;
+        Multipliers {
+            tau,
+            s,
+            h,
+            p,
+            np,
+            ps,
+        }
+    }
+}
+
+impl From<Multipliers> for [i32; 6] {
+    ghost from_gives = { λ m list. list ≡ listed m };
+
+    fn from(m: Multipliers) -> [i32; 6] {
+        [m.tau, m.s, m.h, m.p, m.np, m.ps]
+    }
+}
 
 // k times the phase a, modulo a turn.
 fn multiple(k: i32, a: u32) -> u32

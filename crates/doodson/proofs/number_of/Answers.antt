@@ -1,6 +1,6 @@
 -- Each multiplier of a writable six has its digit, as the machine reads the field back.
 use Rattle.std.proofs.Common.{rules, ◌≡◌, true, ◌≤◌, sym, ◌∙◌, arith, nat_abs, w32, to_z, of_z, to_z-of_z}
-use Rattle.arguments.specs.Phase.{Multipliers}
+use Rattle.arguments.specs.declared.Multipliers.{Multipliers}
 use Rattle.doodson.specs.Doodson.{other, writable}
 use Rattle.doodson.proofs.Digits.{Held, writable_each, first_small}
 use Rattle.doodson.proofs.number_of.Goals as goal
