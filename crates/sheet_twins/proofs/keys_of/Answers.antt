@@ -1,17 +1,17 @@
 -- Each turn stores the key of one more line.
-use mathlib.Core.Path.{◌≡◌}
-use Prim.Native.Nat.{◌≤◌, ◌<◌}
+use Prim.Native.Nat.{◌<◌}
 use native.Mathlib.Omega.{arith}
 use Rattle.whole.proofs.Counted.{all_at}
 use Rattle.sheet.specs.Sheet.{line_count}
 use Rattle.sheet.specs.Accepted.{line_valid}
-use Rattle.sheet_twins.proofs.fill_keys.Goals as goal
-use Rattle.sheet_twins.proofs.fill_keys.Goals.{Start}
+use Rattle.sheet_twins.proofs.Keys.{keyed_none}
+use Rattle.sheet_twins.proofs.keys_of.Goals as goal
 
-counted : (s : Start) → s.args.l.lines ≡ line_count s.args.sheet.now
-counted s = s.requires.0.laid.lines
+pub loop-f-init : goal.loop-f-init
+loop-f-init c = keyed_none _
 
 pub key_at-requires : goal.key_at-requires
 key_at-requires c =
-    let h : c.loop-f.f < line_count c.args.sheet.now = omega (arith, counted (goal.at.key_at-requires c).Start) in
-    (c.requires.0, (h, all_at (line_valid c.args.sheet.now) (line_count c.args.sheet.now) c.requires.1.1.0 c.loop-f.f h))
+    let s = c.args.sheet.now in
+    let h : c.loop-f.f < line_count s.bytes.now = omega (arith, s.laid.lines) in
+    (h, all_at (line_valid s.bytes.now) (line_count s.bytes.now) c.requires.1 c.loop-f.f h)
