@@ -32,12 +32,12 @@ impl<'a> Page<'a> {
     }
 
     // Puts a word as it stands.
-    pub fn put_word(&mut self, word: &[u8])
+    pub fn put_word(&mut self, word: &str)
         requires { HasRoom self.old (length word.now) }
         ensures { Puts self.old word.now self.new }
     {
         let end = self.at + word.len();
-        self.out[self.at..end].copy_from_slice(word);
+        self.out[self.at..end].copy_from_slice(word.as_bytes());
         self.at = end;
     }
 
