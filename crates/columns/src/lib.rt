@@ -2,7 +2,7 @@
 
 #![tactic(auto)]
 
-ghost use Rattle.std.specs.Prelude.{List, ◌≡◌, ◌/◌, ◌^◌, ◌≤◌, ◌<◌, ℕ, length};
+ghost use Rattle.std.specs.Prelude.{List, ◌≡◌, ◌+◌, ◌/◌, ◌^◌, ◌≤◌, ◌<◌, ℕ, length};
 ghost use Rattle.text.specs.Inner.{HasRoom, Puts};
 ghost use Rattle.text.specs.Text.{decimal, padded};
 
@@ -27,7 +27,8 @@ pub trait Value {
 pub fn put<V: Value + Drop>(page: &mut Page, columns: usize, value: V)
     requires room { HasRoom page.old columns }
     requires within { length (V.text value) ≤ columns }
-    ensures { Puts page.old (padded columns (V.text value)) page.new }
+    ensures put { Puts page.old (padded columns (V.text value)) page.new }
+    ensures filled { page.new.at ≡ page.old.at + columns }
 {
     page.put_spaces(columns - value.len());
     value.put(page);

@@ -9,7 +9,7 @@ use lib.ListN.{length, length-append}
 use lib.Seq.{paste, sets, sets-eq, length-sets, take_all}
 use Rattle.std.proofs.lemmas.Slice.{put_mid-paste}
 use Rattle.text.specs.declared.Page.{Page}
-use Rattle.text.specs.Inner.{Put, Puts}
+use Rattle.text.specs.Inner.{Put, HasRoom, Puts}
 
 sets_more : (l a b : List ℕ) (at : ℕ) → sets (sets l at a) (at + length a) b ≡ sets l at (a ++ b)
 sets_more l [] b at = rw (add-zero at)
@@ -37,13 +37,13 @@ put_part l part text at n room long e = record {
 
 -- the same of pages
 pub puts_then : {p q r : Page} {a b : List ℕ} → Puts p a q → Puts q b r → Puts p (a ++ b) r
-puts_then f g = record { same_buffer = g.same_buffer ∙ f.same_buffer; put = put_then f.put g.put }
-
-pub puts_next : {p q : Page} {a : List ℕ} → Puts p a q → q.at ≡ p.at + length a
-puts_next f = f.put.next_is
-
-pub puts_room : {p q : Page} {a : List ℕ} → Puts p a q → length q.out.now ≡ length p.out.now
-puts_room f = put_length f.put
+puts_then f g = record { same_buffer = g.same_buffer ∙ f.same_buffer; put = put_then f.put g.put; same_room = g.same_room ∙ f.same_room }
 
 pub puts_none : (p : Page) → Puts p [] p
-puts_none p = record { same_buffer = refl; put = record { next_is = omega arith; bytes_are = refl } }
+puts_none p = record { same_buffer = refl; put = record { next_is = omega arith; bytes_are = refl }; same_room = refl }
+
+pub puts_part : (p : Page) (part text : List ℕ) (n : ℕ) → HasRoom p n → n ≡ length text → part ≡ text → (q : Page) → q.out.ghost_name ≡ p.out.ghost_name
+    → q.out.now ≡ put_mid p.at (p.at + n - p.at) p.out.now part → q.at ≡ p.at + n → Puts p text q
+puts_part p part text n room long e q same bytes next =
+    let f : Put p.out.now p.at text q.out.now q.at = rw (bytes, next) (put_part p.out.now part text p.at n room long e) in
+    record { same_buffer = same; put = f; same_room = put_length f }

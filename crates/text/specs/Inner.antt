@@ -23,3 +23,4 @@ HasRoom page more = page.at + more ≤ length page.out.now
 pub record Puts (before : Page) (text : List ℕ) (after : Page) : Type 0 where
   pub same_buffer : after.out.ghost_name ≡ before.out.ghost_name
   pub put : Put before.out.now before.at text after.out.now after.at
+  pub same_room : length after.out.now ≡ length before.out.now

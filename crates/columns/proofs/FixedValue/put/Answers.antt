@@ -1,7 +1,7 @@
 -- The sign, the whole part, the dot, the decimals.
 use native.Mathlib.Omega.{arith}
 use Rattle.text.specs.Text.{ascii, fixed_point}
-use Rattle.text.proofs.Puts.{puts_then, puts_next, puts_room}
+use Rattle.text.proofs.Puts.{puts_then}
 use Rattle.columns.specs.Fixed.{fixed}
 use Rattle.columns.proofs.Sizes.{sized}
 use Rattle.columns.proofs.FixedValue.put.Goals as goal
@@ -10,17 +10,17 @@ pub put_sign-requires : goal.put_sign-requires
 put_sign-requires c = omega (arith, c.requires, sized c.args.self.now)
 
 pub put_decimal-requires : goal.put_decimal-requires
-put_decimal-requires c = rw c.whole.ensures (omega (arith, c.requires, sized c.args.self.now, puts_next c.put_sign.ensures, puts_room c.put_sign.ensures))
+put_decimal-requires c = rw c.whole.ensures (omega (arith, c.requires, sized c.args.self.now, c.put_sign.ensures.put.next_is, c.put_sign.ensures.same_room))
 
 pub put_byte-requires : goal.put_byte-requires
 put_byte-requires c =
     let whole = rw c.whole.ensures at c.put_decimal.ensures in
-    omega (arith, c.requires, sized c.args.self.now, puts_next c.put_sign.ensures, puts_room c.put_sign.ensures, puts_next whole, puts_room whole)
+    omega (arith, c.requires, sized c.args.self.now, c.put_sign.ensures.put.next_is, c.put_sign.ensures.same_room, whole.put.next_is, whole.same_room)
 
 pub put_last-requires : goal.put_last-requires
 put_last-requires c =
     let whole = rw c.whole.ensures at c.put_decimal.ensures in
-    omega (arith, c.requires, sized c.args.self.now, puts_next c.put_sign.ensures, puts_room c.put_sign.ensures, puts_next whole, puts_room whole, puts_next c.put_byte.ensures, puts_room c.put_byte.ensures)
+    omega (arith, c.requires, sized c.args.self.now, c.put_sign.ensures.put.next_is, c.put_sign.ensures.same_room, whole.put.next_is, whole.same_room, c.put_byte.ensures.put.next_is, c.put_byte.ensures.same_room)
 
 pub returns : goal.returns
 unfolding fixed fixed_point ascii

@@ -6,7 +6,7 @@ use native.Mathlib.Omega.{arith}
 use lib.ListN.{length, length-append}
 use Rattle.text.specs.Inner.{Puts}
 use Rattle.text.specs.Text.{decimal, digit}
-use Rattle.text.proofs.Puts.{puts_none, puts_then, puts_next, puts_room}
+use Rattle.text.proofs.Puts.{puts_none, puts_then}
 use Rattle.text.proofs.Decimals.{leading, leading_none, leading_some, leading_last}
 use Rattle.text.proofs.Page.+put_decimal.Goals as goal
 use Rattle.text.proofs.Page.+put_decimal.Goals.{then-n-ge10, else-n-ge10}
@@ -26,7 +26,7 @@ put_byte-requires t c =
       | then-n-ge10 w ↦ rw (leading_some n w.if-n-ge10.true, w.self-is) w.put_decimal.ensures
       | else-n-ge10 w ↦ rw (leading_none n (omega arith), w.self-is) (puts_none _)
     ] in
-    omega (arith, c.requires, sized n, puts_next front, puts_room front)
+    omega (arith, c.requires, sized n, front.put.next_is, front.same_room)
 
 pub returns : goal.returns
 returns t c =

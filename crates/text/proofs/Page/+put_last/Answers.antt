@@ -1,7 +1,7 @@
 -- The last digits but one are put first, by the same call on a tenth of the number, and then the last digit.
 use native.Mathlib.Omega.{arith}
 use Prim.Native.Nat.{◌-◌, ◌/◌}
-use Rattle.text.proofs.Puts.{puts_none, puts_then, puts_next, puts_room}
+use Rattle.text.proofs.Puts.{puts_none, puts_then}
 use Rattle.text.proofs.Columns.{last_length, no_digits, last_more}
 use Rattle.text.proofs.Page.+put_last.Goals as goal
 
@@ -10,7 +10,7 @@ returns-then-count-eq0 t c = rw (no_digits c.args.count c.args.n c.if-count-eq0.
 
 pub put_byte-requires : goal.put_byte-requires
 put_byte-requires t c =
-    omega (arith, c.requires, puts_room c.put_last.ensures, puts_next c.put_last.ensures, last_length (c.args.count - 1) (c.args.n / 10))
+    omega (arith, c.requires, c.put_last.ensures.put.next_is, c.put_last.ensures.same_room, last_length (c.args.count - 1) (c.args.n / 10))
 
 pub returns : goal.returns
 returns t c =

@@ -7,7 +7,7 @@ use lib.ListN.{length, length-append}
 use lib.Signed.{lt_z}
 use mir.Facts.{to_z-of_z}
 use Rattle.text.specs.Text.{decimal, number, sign}
-use Rattle.text.proofs.Puts.{puts_then, puts_next, puts_room}
+use Rattle.text.proofs.Puts.{puts_then}
 use Rattle.text.proofs.Numbers.{signed_number}
 use Rattle.text.proofs.Page.put_number.Goals as goal
 
@@ -20,7 +20,7 @@ put_sign-requires c = rw (to_z-of_z c.ranges.z) (omega (arith, c.requires, sized
 pub put_decimal-requires : goal.put_decimal-requires
 put_decimal-requires c =
     let signed = rw (to_z-of_z c.ranges.z) at c.put_sign.ensures in
-    rw (c.unsigned_abs.ensures.value, to_z-of_z c.ranges.z) (omega (arith, c.requires, sized c.args.z, puts_next signed, puts_room signed))
+    rw (c.unsigned_abs.ensures.value, to_z-of_z c.ranges.z) (omega (arith, c.requires, sized c.args.z, signed.put.next_is, signed.same_room))
 
 pub returns : goal.returns
 returns c =
