@@ -1,7 +1,7 @@
 -- Document 01, "Doodson numbers".
 use Rattle.std.specs.Prelude.{Bool, ◌&&◌, cond, ℕ, ◌+◌, ◌*◌, ◌/◌, ◌%◌, ◌^◌, ℤ, pos, negsuc, nat_abs, ◌+ℤ◌, ◌-ℤ◌}
 use Rattle.std.specs.Int.Signed.{le_z}
-use Rattle.arguments.specs.Phase.{Multipliers}
+use Rattle.arguments.specs.declared.Multipliers.{Multipliers}
 use Rattle.limits.specs.Limits.{is_doodson}
 use Rattle.refusals.specs.Told.{Told}
 use Rattle.refusals.specs.Numbers.{refusal_number}

@@ -1,7 +1,7 @@
 -- What the inner functions hand to one another: the printed lines by column, and a Doodson number with each decimal digit written as a
 -- hexadecimal one.
 use Rattle.std.specs.Prelude.{List, map, ℕ, ◌+◌, ◌*◌, ◌/◌, ◌%◌, ◌^◌, ℤ, pos, ◌-ℤ◌}
-use Rattle.arguments.specs.Phase.{Multipliers}
+use Rattle.arguments.specs.declared.Multipliers.{Multipliers}
 use Rattle.bands.specs.declared.Band.{Band}
 use Rattle.bands.specs.declared.Line.{Line as BandLine}
 use Rattle.doodson.specs.Doodson.{digit}

@@ -1,7 +1,7 @@
 -- Document 01, "Step two (001, Tables 6.2)": the 49 printed lines, in its order and with its values; and finding one by its Doodson number.
 use Rattle.std.specs.Prelude.{cond, List, [], ◌∷◌, ◌++◌, ℕ, ◌+◌, ltb, eqb, ℤ, pos, neg_ℤ, get_or}
-use Rattle.arguments.specs.Phase.{Multipliers}
-use Rattle.arguments.specs.Phase.{Phases}
+use Rattle.arguments.specs.declared.Multipliers.{Multipliers}
+use Rattle.arguments.specs.declared.Phases.{Phases}
 use Rattle.arguments.specs.Phase.{phase}
 use Rattle.bands.specs.declared.Band.{Band}
 use Rattle.bands.specs.declared.Band.TheVariants.{Diurnal, LongPeriod, Semidiurnal}

@@ -1,6 +1,6 @@
 -- Document 01, "Model sheet and ocean tide": what a sheet's bytes say.
 use Rattle.std.specs.Prelude.{List, ℕ, ◌+◌, ◌*◌, ◌^◌, ℤ}
-use Rattle.arguments.specs.Phase.{Multipliers}
+use Rattle.arguments.specs.declared.Multipliers.{Multipliers}
 use Rattle.words.specs.Words.{byte_at, half_at, word_at, twos_complement}
 
 -- ---- "Three sections, each after its 16-bit count"

@@ -1,6 +1,6 @@
 -- Inner contracts, no words of 01: what the code keeps of the waves and the factors, once a call.
 use Rattle.std.specs.Prelude.{List, ◌≡◌, ℕ, ◌^◌, ◌≤◌, ◌<◌, ℤ, pos, nat_abs, ◌+ℤ◌, ◌-ℤ◌, get_or}
-use Rattle.arguments.specs.Phase.{Phases}
+use Rattle.arguments.specs.declared.Phases.{Phases}
 use Rattle.sheet.specs.declared.Layout.{Layout}
 use Rattle.sheet.specs.Inner.{Passed}
 use Rattle.sheet.specs.Sheet.{line_count, tide_count}

@@ -5,7 +5,7 @@ use native.Mathlib.Omega.{arith}
 use lib.IntN.{pos, nat_abs, ◌+ℤ◌}
 use mir.Facts.{to_z-of_z}
 use Rattle.whole.proofs.Machine.{positive}
-use Rattle.arguments.specs.Phase.{Multipliers}
+use Rattle.arguments.specs.declared.Multipliers.{Multipliers}
 use Rattle.refusals.specs.Told.Told.{accepted}
 use Rattle.doodson.specs.Doodson.{number_of, write_doodson}
 use Rattle.doodson.proofs.Digits.{Held, Writable, writable_each, first_parts, first_small}
