@@ -42,7 +42,7 @@ fn raised(n: u64, k: usize) -> Option<u64>
     ensures { Held result (n * 10 ^ k) }
 {
     let mut product = n;
-    for i in 0..k.min(20) {
+    for _ in 0..k.min(20) {
         product = product.checked_mul(10)?;
     }
     Some(product)
