@@ -9,6 +9,9 @@ use borrow.Author.Tests.{eqb-true, ne_eqb}
 use lib.Dec.{eqb}
 use lib.IntN.{ℤ}
 use Rattle.refusals.specs.Outcome.{first_of, unless_refused, told_unless, Outcome, Gives, GivesValue}
+use Rattle.refusals.specs.declared.Refusal.{Refusal}
+use Rattle.refusals.specs.Numbers.{refusal_number}
+use Rattle.refusals.proofs.Numbers.{refusal_not_zero}
 use Rattle.refusals.specs.Told.{Told}
 use Rattle.refusals.specs.Told.Told.{accepted, refused}
 
@@ -68,6 +71,17 @@ first_alone (suc a) = first_kept (suc a) 0 (λ e. omega arith)
 pub first_none : (a b : ℕ) → first_of a b ≡ 0 → (a ≡ 0) × (b ≡ 0)
 first_none zero b e = (refl, sym (first_passed 0 b refl) ∙ e)
 first_none (suc a) b e = absurd (let z : suc a ≡ 0 = sym (first_kept (suc a) b (λ q. omega arith)) ∙ e in omega arith)
+
+-- ---- tests by `?`: what the first of two refusals is where the first test refuses, where the second does, and where both pass
+pub refused_first : (r : Refusal) (a b : ℕ) → refusal_number r ≡ a → refusal_number r ≡ first_of a b
+refused_first r a b e = e ∙ sym (first_kept a b (λ z. refusal_not_zero r (e ∙ z)))
+
+pub refused_next : (n a b : ℕ) → a ≡ 0 → n ≡ b → n ≡ first_of a b
+refused_next n a b z e = e ∙ sym (first_passed a b z)
+
+-- a call that is refused gives its outcome: both lists as they were
+pub gives_refused : (r : Refusal) {number : ℕ} (c s c' s' : List ℤ) → refusal_number r ≡ number → Gives (unless_refused number c s c' s') (refusal_number r) c s
+gives_refused r c s c' s' e = gives_kept c s c' s' e (λ z. refusal_not_zero r (e ∙ z))
 
 -- ---- two tests in their order, the first answered by x and the second by y: each number exactly when
 module _ {A B : Type 0} (x y : ℕ) (x-some : 0 < x) (y-some : 0 < y) (apart : x ≡ y → ⊥) where
