@@ -41,13 +41,13 @@ abbrev day : Phases
 day = record { tau = 327043742; s = 329517021; h = 656638906; p = 3117674196; np = 3812369497; ps = 3376471194 }
 
 abbrev monthly : OwnLine
-monthly = record { tau = pos 0; s = pos 2; h = pos 0; p = pos 0; np = pos 0; ps = pos 0; ip = pos 37; op = neg_ℤ (pos 12) }
+monthly = record { multipliers = record { tau = pos 0; s = pos 2; h = pos 0; p = pos 0; np = pos 0; ps = pos 0 }; ip = pos 37; op = neg_ℤ (pos 12) }
 
 abbrev daily : OwnLine
-daily = record { tau = pos 1; s = neg_ℤ (pos 1); h = pos 0; p = pos 0; np = pos 0; ps = pos 0; ip = neg_ℤ (pos 250); op = pos 31 }
+daily = record { multipliers = record { tau = pos 1; s = neg_ℤ (pos 1); h = pos 0; p = pos 0; np = pos 0; ps = pos 0 }; ip = neg_ℤ (pos 250); op = pos 31 }
 
 abbrev half_daily : OwnLine
-half_daily = record { tau = pos 2; s = neg_ℤ (pos 1); h = pos 0; p = pos 1; np = pos 0; ps = pos 0; ip = pos 18; op = pos 45 }
+half_daily = record { multipliers = record { tau = pos 2; s = neg_ℤ (pos 1); h = pos 0; p = pos 1; np = pos 0; ps = pos 0 }; ip = pos 18; op = pos 45 }
 
 four_lines : own_corrections day (monthly ∷ daily ∷ daily ∷ half_daily ∷ []) ≡ record { c20 = pos 3095; c21 = pos 6381; s21 = neg_ℤ (pos 49977); c22 = pos 4839; s22 = pos 277 }
 unfolding own_corrections modulo phase multipliers_of band_of line_of of_diurnal of_long_period of_semidiurnal of_band term sum_of correction_of corrections_of sin cos further eighths signed part folded eighth_sine eighth_cosine steps step square angle nearest sum_to

@@ -27,9 +27,7 @@ use Rattle.whole.specs.Sum.{all_to}
 
 -- a printed line as a record: the multipliers that its number writes, and two amplitudes
 abbrev lent : Printed → ℤ → ℤ → OwnLine
-lent l ip op =
-    let m = multipliers_in l.number in
-    record { tau = m.tau; s = m.s; h = m.h; p = m.p; np = m.np; ps = m.ps; ip = ip; op = op }
+lent l ip op = record { multipliers = multipliers_in l.number; ip = ip; op = op }
 
 -- anelastic: of a diurnal line the second amplitude, of one of long period both as they are printed, of a semidiurnal one the first
 unfoldable pub printed_as_own : List OwnLine

@@ -3,6 +3,7 @@ use mathlib.Core.Path.{◌≡◌, refl, sym, ap, ◌∙◌}
 use mathlib.Core.Bool.{Bool, true, false}
 use mathlib.Core.List.{List, [], ◌∷◌, ◌++◌, append_assoc, append-nil}
 use Prim.Native.Nat.{ℕ, suc, ◌+◌, ◌-◌, ◌*◌, ◌/◌, ◌^◌, ◌≤◌, ◌<◌}
+use native.Mathlib.Nat.{one-le-pow}
 use native.Mathlib.Omega.{arith}
 use borrow.Author.Tests.{le-leb, ne_eqb}
 use lib.IntN.{ℤ, pos, negsuc}
@@ -10,7 +11,7 @@ use lib.ListN.{length, get_or, length-append}
 use Rattle.icgem_decimal.specs.Decimal.{is_digit, all_digits, read_on, is_letter, is_dot, is_minus, unsigned}
 use Rattle.icgem_decimal.specs.Decimal.{is_exponent, is_mantissa, is_decimal, exponent_up, exponent_down, in_units}
 use Rattle.icgem_decimal.proofs.Digits.{digits_append}
-use Rattle.icgem_decimal.proofs.Rounded.{ten_pos, rounded_exact}
+use Rattle.icgem_decimal.proofs.Rounded.{rounded_exact}
 use Rattle.icgem_words.specs.Words.{pieces}
 use Rattle.icgem_words.specs.Inner.{all_of}
 use Rattle.icgem_words.proofs.Joined.{pieces_last, pieces_then}
@@ -34,7 +35,7 @@ nearest_exact : (s : Bool) (n k : ℕ) → nearest (signed s (n * 10 ^ k)) (10 ^
 nearest_exact s n k =
     let z : k - k ≡ 0 = omega arith in
     let e : n * 10 ^ (k - k) ≡ n = rw z (omega arith) in
-    nearest_signed s (n * 10 ^ k) (10 ^ k) (ten_pos k) ∙ ap (signed s) (rounded_exact n k k (omega arith) ∙ e)
+    nearest_signed s (n * 10 ^ k) (10 ^ k) (one-le-pow k 10 (omega arith)) ∙ ap (signed s) (rounded_exact n k k (omega arith) ∙ e)
 
 -- a word with no letter, whose pieces about the dot are known, with as many decimals as are asked for
 module _ (places n : ℕ) (word : List ℕ) (around : List (List ℕ)) (L : pieces is_letter word ≡ word ∷ []) (D : pieces is_dot (unsigned word) ≡ around)

@@ -74,6 +74,16 @@ pub first_none : (a b : ℕ) → first_of a b ≡ 0 → (a ≡ 0) × (b ≡ 0)
 first_none zero b e = (refl, sym (first_passed 0 b refl) ∙ e)
 first_none (suc a) b e = absurd (let z : suc a ≡ 0 = sym (first_kept (suc a) b (λ q. omega arith)) ∙ e in omega arith)
 
+-- of three tests, whichever two are taken first
+pub first_of_three : (a b c : ℕ) → first_of (first_of a b) c ≡ first_of a (first_of b c)
+first_of_three zero b c = ap (λ (x : ℕ). first_of x c) (first_passed 0 b refl) ∙ sym (first_passed 0 (first_of b c) refl)
+first_of_three (suc a) b c =
+    let some : suc a ≡ 0 → ⊥ = λ e. omega arith in
+    ap (λ (x : ℕ). first_of x c) (first_kept (suc a) b some) ∙ first_kept (suc a) c some ∙ sym (first_kept (suc a) (first_of b c) some)
+
+pub refused_first : (r : Refusal) (a b : ℕ) → refusal_number r ≡ a → refusal_number r ≡ first_of a b
+refused_first r a b e = e ∙ sym (first_kept a b (λ z. refusal_not_zero r (e ∙ z)))
+
 -- one test after the other, as the library's `and` puts them
 pub and_first : {A : Type 0} (a : Result Unit Refusal) (b : Result A Refusal) → told_number (tells (result_and a b)) ≡ first_of (answer_number a) (told_number (tells b))
 and_first (Ok done) b = sym (first_passed 0 (told_number (tells b)) refl)

@@ -22,7 +22,7 @@ abbrev pub reversed_line : Line → Line
 reversed_line l = record { band = l.band; ip = neg_ℤ l.ip; op = neg_ℤ l.op }
 
 abbrev pub reversed_record : OwnLine → OwnLine
-reversed_record l = record { tau = l.tau; s = l.s; h = l.h; p = l.p; np = l.np; ps = l.ps; ip = neg_ℤ l.ip; op = neg_ℤ l.op }
+reversed_record l = record { multipliers = l.multipliers; ip = neg_ℤ l.ip; op = neg_ℤ l.op }
 
 -- ---- "or of each sheet coefficient": the sheet `reversed` has the lines, the rows and the places of `sheet`, and each coefficient with the other sign
 pub record Reversed (sheet reversed : List ℕ) : Type 0 where

@@ -1,42 +1,52 @@
--- What a list's sums tell: accepted, they are the definition's, so their nearest are its corrections; refused, the outcome has no corrections.
-use mathlib.Core.Path.{◌≡◌, refl, ap, ◌∙◌}
+-- What a list's sums tell: accepted, they are the definition's, so their nearest are its corrections; refused, the list's number is the call's where the
+-- field passes.
+use mathlib.Core.Path.{◌≡◌, refl, sym, ap, ap₂, subst, ◌∙◌}
 use mathlib.Core.List.{List}
-use Prim.Native.Nat.{ℕ, zero, suc}
-use native.Mathlib.Omega.{arith}
-use borrow.Author.Tests.{ne_eqb}
+use Prim.Native.Nat.{ℕ}
 use lib.IntN.{ℤ}
+use Rattle.std.specs.Prelude.{Result, Ok, Err}
+use Rattle.std.specs.Result.{result_and}
 use Rattle.arguments.specs.declared.Phases.{Phases}
-use Rattle.bands.specs.declared.Corrections.{Corrections}
+use Rattle.bands.specs.declared.Sums.{Sums}
 use Rattle.bands.specs.Bands.{corrections_of}
-use Rattle.bands.specs.Inner.{sums_of, rounded_of}
+use Rattle.bands.specs.Inner.{sums_of, rounded_of, Bounded}
 use Rattle.field.specs.Field.{field_refusal}
-use Rattle.refusals.specs.Numbers.{answer_number}
-use Rattle.refusals.specs.Outcome.{first_of, unless_refused, Gives}
-use Rattle.refusals.proofs.Outcomes.{first_none, gives_same}
+use Rattle.refusals.specs.declared.Refusal.{Refusal}
+use Rattle.refusals.specs.Numbers.{refusal_number, answer_number, tells}
+use Rattle.refusals.specs.Outcome.{first_of}
+use Rattle.refusals.specs.Told.{told_number}
+use Rattle.refusals.proofs.Outcomes.{first_passed, and_first, and_ok}
 use Rattle.own.specs.declared.OwnLine.{OwnLine}
-use Rattle.own.specs.declared.Summed.{Summed}
 use Rattle.own.specs.Own.{records_refusal, own_corrections}
 use Rattle.own.specs.Inner.{Totals}
-use Rattle.surfgimlet.specs.Calls.{five_corrected, own_lines, own_lines_refusal}
+use Rattle.surfgimlet.specs.Calls.{own_lines_refusal}
 
--- an accepted list: the nearest of its sums are its corrections
-rounded : (phases : Phases) (lines : List OwnLine) (sum : Summed) → Totals phases lines sum → records_refusal lines ≡ 0 → rounded_of sum.sums ≡ own_corrections phases lines
-unfolding rounded_of sums_of corrections_of own_corrections
-rounded phases lines sum t e = ap rounded_of (t.sums e)
+module _ (phases : Phases) (lines : List OwnLine) where
+  totals_number : (r : Result Sums Refusal) → Totals phases lines r → told_number (tells r) ≡ records_refusal lines
+  totals_number (Ok sums) t = sym t.0
+  totals_number (Err why) t = t
 
--- two outcomes of one number, whose corrections are the same where the number is 0
-same_outcome : (number : ℕ) (c s : List ℤ) (d d' : Corrections) → (number ≡ 0 → d ≡ d') → five_corrected number c s d ≡ five_corrected number c s d'
-unfolding five_corrected unless_refused
-same_outcome zero c s d d' h = ap (five_corrected 0 c s) (h refl)
-same_outcome (suc number) c s d d' h = rw (ne_eqb (suc number) 0 (λ e. omega arith)) refl
+  -- the field's test is f, the list's sums are r
+  module _ (n : ℕ) (c s : List ℤ) (f : Result Unit Refusal) (r : Result Sums Refusal) (field : answer_number f ≡ field_refusal n c s) (total : Totals phases lines r) where
+    pub refused_own : (why : Refusal) → Err why ≡ result_and f r → refusal_number why ≡ own_lines_refusal n c s lines
+    unfolding own_lines_refusal
+    refused_own why e = ap (λ (x : Result Sums Refusal). told_number (tells x)) e ∙ and_first f r ∙ ap₂ first_of field (totals_number r total)
 
-told_own : (n : ℕ) (c s : List ℤ) (lines : List OwnLine) (phases : Phases) (sum : Summed) → Totals phases lines sum
-    → five_corrected (first_of (field_refusal n c s) (answer_number sum.answer)) c s (rounded_of sum.sums) ≡ own_lines n c s lines phases
-unfolding own_lines own_lines_refusal
-told_own n c s lines phases sum t =
-    ap (λ (k : ℕ). five_corrected (first_of (field_refusal n c s) k) c s (rounded_of sum.sums)) t.number
-    ∙ same_outcome (first_of (field_refusal n c s) (records_refusal lines)) c s (rounded_of sum.sums) (own_corrections phases lines) (λ e. rounded phases lines sum t (first_none (field_refusal n c s) (records_refusal lines) e).1)
+    module _ (sums : Sums) (both : Ok sums ≡ result_and f r) where
+      listed : Totals phases lines (Ok sums)
+      listed = subst (Totals phases lines) (and_ok f r sums (sym both)).1 total
 
-pub own_lines_given : (n : ℕ) (c s : List ℤ) (lines : List OwnLine) (phases : Phases) (sum : Summed) (k : ℕ) (c' s' : List ℤ) → Totals phases lines sum
-    → Gives (five_corrected (first_of (field_refusal n c s) (answer_number sum.answer)) c s (rounded_of sum.sums)) k c' s' → Gives (own_lines n c s lines phases) k c' s'
-own_lines_given n c s lines phases sum k c' s' t g = gives_same (told_own n c s lines phases sum t) g
+      pub field_passed : field_refusal n c s ≡ 0
+      field_passed = sym field ∙ (and_ok f r sums (sym both)).0
+
+      pub own_number : 0 ≡ own_lines_refusal n c s lines
+      unfolding own_lines_refusal
+      own_number = sym (first_passed (field_refusal n c s) (records_refusal lines) field_passed ∙ listed.0)
+
+      -- the nearest of its sums are its corrections
+      pub own_same : rounded_of sums ≡ own_corrections phases lines
+      unfolding rounded_of sums_of corrections_of own_corrections
+      own_same = ap rounded_of listed.1.0
+
+      pub own_bounded : Bounded sums
+      own_bounded = listed.1.1

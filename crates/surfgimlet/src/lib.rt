@@ -162,7 +162,7 @@ pub fn ocean_tide(
 ) -> Result<(), Refusal>
     ensures { Gives (ocean_tide n c.old s.old sheet.now phases frame) (answer_number result) c.new s.new }
 {
-    let sheet = field::tested(n, c, s).and(accept::accepted(sheet, n))?;
+    let sheet = field::tested(n, c, s).and(accept::tested(sheet, n))?;
     ocean::add_tide(c, s, &sheet, phases, frame);
     Ok(())
 }
