@@ -1,12 +1,12 @@
 -- Refusals 3, 4 and 5 are given of a body exactly when 01's table says.
 use mathlib.Core.Path.{◌≡◌, refl, ap}
-use mathlib.Core.Bool.{Bool, true, false, cond, ◌&&◌}
+use mathlib.Core.Bool.{Bool, true, false, cond}
 use mathlib.Core.Logic.{◌↔◌}
 use Prim.Native.Nat.{◌^◌}
 use native.Mathlib.Omega.{arith}
 use lib.Dec.{T}
 use lib.Ieee.{lt, le}
-use lib.Ieee.Fits.{and_l, and_r}
+use lib.Ieee.Fits.{and_i, and_l, and_r}
 use Rattle.doubles.specs.Doubles.{number, finite}
 use Rattle.limits.specs.Limits.{is_distance, is_ratio}
 use Rattle.refusals.specs.Told.{Told, told_number}
@@ -32,16 +32,12 @@ pub record LengthOne (d : Direction) : Type 0 where
   pub least : T (le minus_tolerance (excess d))
   pub largest : T (le (excess d) tolerance)
 
-both : (x y : Bool) → T x → T y → T (x && y)
-both true y h k = k
-both false y h k = h
-
 is_finite : (b : Body) → T (finite_body b) ↔ Finite b
 unfolding finite_body
 is_finite b =
     let p = finite_place b.place in
     let q = finite b.ratio in
-    (λ h. record { place = and_l p q h; ratio = and_r p q h }, λ f. both p q f.place f.ratio)
+    (λ h. record { place = and_l p q h; ratio = and_r p q h }, λ f. and_i p q f.place f.ratio)
 
 is_in_reach : (b : Body) → T (in_reach (direction_of b.place).r b.ratio) ↔ InReach b
 unfolding in_reach
@@ -55,7 +51,7 @@ is_in_reach b =
           let d = and_l (is_distance r) (is_ratio b.ratio) h in
           let m = and_r (is_distance r) (is_ratio b.ratio) h in
           record { least = and_l least largest d; largest = and_r least largest d; above_zero = and_l above most m; at_most = and_r above most m },
-      λ w. both (is_distance r) (is_ratio b.ratio) (both least largest w.least w.largest) (both above most w.above_zero w.at_most),
+      λ w. and_i (is_distance r) (is_ratio b.ratio) (and_i least largest w.least w.largest) (and_i above most w.above_zero w.at_most),
     )
 
 is_of_length_one : (d : Direction) → T (of_length_one d) ↔ LengthOne d
@@ -63,7 +59,7 @@ unfolding of_length_one
 is_of_length_one d =
     let least = le minus_tolerance (excess d) in
     let largest = le (excess d) tolerance in
-    (λ h. record { least = and_l least largest h; largest = and_r least largest h }, λ w. both least largest w.least w.largest)
+    (λ h. record { least = and_l least largest h; largest = and_r least largest h }, λ w. and_i least largest w.least w.largest)
 
 -- of three tests in their order, each with what it says
 abbrev told : {D : Type 0} → D → Bool → Bool → Bool → Told D

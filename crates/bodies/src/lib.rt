@@ -3,7 +3,7 @@
 #![tactic(auto)]
 
 ghost use Rattle.std.specs.Prelude.{◌≡◌};
-ghost use Rattle.bodies.specs.Bodies.{all_finite, finite_place, finite_body, in_reach, direction_of, of_length_one, sighted};
+ghost use Rattle.bodies.specs.Bodies.{finite_place, finite_body, in_reach, direction_of, of_length_one, sighted};
 ghost use Rattle.refusals.specs.Numbers.{tells};
 
 use limits::{is_distance, is_ratio};
@@ -51,18 +51,13 @@ impl From<Place> for Direction {
     }
 }
 
-fn are_finite(a: f64, b: f64, c: f64, d: f64) -> bool
-    ensures { result ≡ all_finite a b c d }
-{
-    a.is_finite() & b.is_finite() & c.is_finite() & d.is_finite()
-}
-
 fn is_finite_place(place: Place) -> bool
     ensures { result ≡ finite_place place }
 {
     match place {
-        Place::Rectangular(x, y, z, r) => are_finite(x, y, z, r),
-        Place::Directional(u, v, w, r) => are_finite(u, v, w, r),
+        Place::Rectangular(a, b, c, r) | Place::Directional(a, b, c, r) => {
+            a.is_finite() & b.is_finite() & c.is_finite() & r.is_finite()
+        }
     }
 }
 

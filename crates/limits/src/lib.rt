@@ -1,4 +1,5 @@
 // The bounds of documents 01 and 02, each named once: a test of a number. A direction's tolerance and a digit's range stand with their rules.
+// Each has a function of its own: a generic one would be handed the same number at every call, and would be no plainer.
 
 #![tactic(auto)]
 
@@ -71,13 +72,14 @@ pub fn is_distance(r: f64) -> bool
     (LEAST_DISTANCE..=LARGEST_DISTANCE).contains(&r)
 }
 
+// No range of std leaves its start out.
 pub fn is_ratio(x: f64) -> bool
     ensures { result ≡ is_ratio x }
 {
     (0.0 < x) & (x <= LARGEST_RATIO)
 }
 
-// No NaN is.
+// No NaN is. No range of std leaves its start out.
 pub fn is_countable(x: f64) -> bool
     ensures { result ≡ is_countable x }
 {

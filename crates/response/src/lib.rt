@@ -12,6 +12,7 @@ use doubles::Complex;
 const COUNTS: f64 = 1e15;
 
 // dC and dS in counts, before rounding, at the places 20, 21, 22, 30, 31, 32, 33, 40, 41, 42; dS is 0 at order 0.
+// A generic struct can hold no array of its parameter, so that this and the counts that it is rounded to are two structs.
 #[derive(Clone, Copy)]
 pub struct Changes {
     pub c: [f64; 10],

@@ -23,11 +23,11 @@ unfolding all_countable
 all_true [] h = refl
 all_true (x ∷ xs) h = rw (h 0 (zero-lt-suc (length xs)), ← all_true xs (λ j l. h (suc j) (omega arith)))
 
-pub each : (xs : List Float) → T (all_countable xs) → (j : ℕ) → j < length xs → T (is_countable (get_or xs j nan))
+pub each : (d : Float) (xs : List Float) → T (all_countable xs) → (j : ℕ) → j < length xs → T (is_countable (get_or xs j d))
 unfolding all_countable
-each [] t j l = absurd (not-suc-le-zero l)
-each (x ∷ xs) t zero l = and_l (is_countable x) (all_countable xs) t
-each (x ∷ xs) t (suc j) l = each xs (and_r (is_countable x) (all_countable xs) t) j (le_of_suc-le-suc l)
+each d [] t j l = absurd (not-suc-le-zero l)
+each d (x ∷ xs) t zero l = and_l (is_countable x) (all_countable xs) t
+each d (x ∷ xs) t (suc j) l = each d xs (and_r (is_countable x) (all_countable xs) t) j (le_of_suc-le-suc l)
 
 pub counted : (xs : List Float) (out : List ℤ) → length out ≡ length xs → ((j : ℕ) → j < length xs → get_or out j (pos 0) ≡ count (get_or xs j nan)) → out ≡ counts_c xs
 unfolding counts_c count
@@ -50,10 +50,8 @@ counts_c_small (x ∷ xs) t zero = count_small x (and_l (is_countable x) (all_co
 counts_c_small (x ∷ xs) t (suc k) = counts_c_small xs (and_r (is_countable x) (all_countable xs) t) k
 
 count_at_small : (xs : List Float) → T (all_countable xs) → (k : ℕ) → nat_abs (count (get_or xs k nan)) ≤ 2 ^ 52
-unfolding all_countable count
-count_at_small [] t k = omega arith
-count_at_small (x ∷ xs) t zero = count_small x (and_l (is_countable x) (all_countable xs) t)
-count_at_small (x ∷ xs) t (suc k) = count_at_small xs (and_r (is_countable x) (all_countable xs) t) k
+unfolding counts_c count
+count_at_small xs t k = subst (λ (z : ℤ). nat_abs z ≤ 2 ^ 52) (get_or-map count xs k nan) (counts_c_small xs t k)
 
 pub counts_s_small : (xs : List Float) → T (all_countable xs) → (k : ℕ) → nat_abs (get_or (counts_s xs) k (pos 0)) ≤ 2 ^ 52
 unfolding counts_s

@@ -7,7 +7,8 @@ use Prim.Native.Nat.{ℕ, ◌≤◌, ◌<◌}
 use native.Mathlib.Omega.{arith}
 use lib.Dec.{T}
 use lib.Ieee.{Float, nan}
-use lib.Ieee.Fits.{and_l, and_r}
+use lib.Ieee.Bits.{is_true}
+use lib.Ieee.Fits.{and_i, and_l, and_r}
 use lib.ListN.{length, get_or}
 use Rattle.limits.specs.Limits.{is_countable}
 use Rattle.choices.specs.declared.LoveModel.{LoveModel}
@@ -55,10 +56,6 @@ sight_number b = go (finite_body b) (in_reach (direction_of b.place).r b.ratio) 
     go false i o = omega arith
 
 -- ---- the test for 6
-is_true : (b : Bool) → T b → b ≡ true
-is_true true h = refl
-is_true false h = absurd h
-
 all_are : (xs : List Float) → ((k : ℕ) → k < length xs → T (is_countable (get_or xs k nan))) → T (all_countable xs)
 all_are xs h = subst T (all_true xs (λ k l. is_true _ (h k l))) tt
 
@@ -66,13 +63,9 @@ is-countable : (f : Changes) → T (all_countable f.c && all_countable f.s) ↔ 
 is-countable f =
     let c = all_countable f.c in
     let s = all_countable f.s in (
-      λ t. record { in_c = each f.c (and_l c s t); in-s = each f.s (and_r c s t) },
-      λ h. both c s (all_are f.c h.in_c) (all_are f.s h.in-s),
+      λ t. record { in_c = each nan f.c (and_l c s t); in-s = each nan f.s (and_r c s t) },
+      λ h. and_i c s (all_are f.c h.in_c) (all_are f.s h.in-s),
     )
-  where
-    both : (x y : Bool) → T x → T y → T (x && y)
-    both true y h k = k
-    both false y h k = h
 
 module _ {A : Type 0} {B : Type 0} (a : A) where
   by_test : (b : Bool) → T b ↔ B → (cond b (accepted a) (refused 6) ≡ refused 6 ↔ (B → ⊥)) × ((number : ℕ) → number < 6 → cond b (accepted a) (refused 6) ≡ refused number → ⊥)

@@ -35,11 +35,7 @@ fn counts_c(xs: [f64; 10]) -> [i64; 10]
     requires { T (all_countable xs) }
     ensures { result ≡ counts_c xs }
 {
-    let mut out = [0; 10];
-    for i in 0..10 {
-        out[i] = nearest_count(xs[i]);
-    }
-    out
+    xs.map(|x| nearest_count(x))
 }
 
 // At order 0 only C is used.
