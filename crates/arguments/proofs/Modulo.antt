@@ -1,5 +1,5 @@
 -- Laws of `modulo`: what it is known by, and that sums and multiples may be reduced on the way.
-use Rattle.std.proofs.Common.{◌≡◌, ℕ, ◌+◌, ◌*◌, ◌/◌, ◌%◌, ◌<◌, ◌≤◌, ℤ, pos, negsuc, ◌+ℤ◌, ◌-ℤ◌, ◌*ℤ◌, nat_abs, ap, mod-lt, arith}
+use Rattle.std.proofs.Common.{◌≡◌, ℕ, suc, ◌+◌, ◌-◌, ◌*◌, ◌/◌, ◌%◌, ◌^◌, ◌<◌, ◌≤◌, ℤ, pos, negsuc, ◌+ℤ◌, ◌-ℤ◌, ◌*ℤ◌, nat_abs, ap, mod-lt, arith, w32, SFits, of_z}
 use native.Mathlib.Nat.{div-add-mod}
 use lib.IntN.{sub_ℕ}
 use lib.Signed.{shr_z}
@@ -45,13 +45,6 @@ module _ (n : ℕ) (h : 0 < n) where
       only_modulo (k *ℤ pos a) (up (shr_z k n) * a + m / n) (dn (shr_z k n) * a) n (m % n) (mod-lt m h)
       (omega (arith, ap (λ (x : ℕ). x * a) (divided k n h), product k (pos a), div-add-mod m n))
 
-  -- with n added, which makes it positive
-  pub modulo_raised : (k : ℤ) → dn k ≤ n → nat_abs (k +ℤ pos n) % n ≡ modulo k n
-  modulo_raised k l =
-      let m = nat_abs (k +ℤ pos n) in
-      only_modulo k (m / n) 1 n (m % n) (mod-lt m h)
-      (omega (arith, sum k (pos n), div-add-mod m n, abs_positive (k +ℤ pos n) (omega (arith, sum k (pos n)))))
-
   -- of a number that is below n already
   pub modulo_below : (a : ℕ) → a < n → a ≡ modulo (pos a) n
   modulo_below a l = only_modulo (pos a) 0 0 n a l (omega arith)
@@ -59,3 +52,8 @@ module _ (n : ℕ) (h : 0 < n) where
   -- below n
   pub modulo_lt : (z : ℤ) → modulo z n < n
   modulo_lt z = omega (arith, divided z n h, (floored z n h).roof)
+
+-- the bits that hold a signed number are the number modulo a turn
+pub modulo_bits : (k : ℤ) → SFits w32 k → of_z w32 k ≡ modulo k (2 ^ 32)
+modulo_bits (pos n) f = modulo_below (2 ^ 32) (omega arith) n (omega (arith, f.sfits))
+modulo_bits (negsuc n) f = let l = f.sfits in only_modulo (negsuc n) 0 1 (2 ^ 32) (2 ^ 32 - suc n) (omega arith) (omega arith)

@@ -1,17 +1,31 @@
 -- Document 01, "Phase, sine and cosine": the phase of a line. Document 02, T-08: arguments moved.
-use Rattle.std.specs.Prelude.{ℕ, ◌^◌, ℤ, pos, ◌+ℤ◌, ◌-ℤ◌, ◌*ℤ◌, unsigned_abs}
+use Rattle.std.specs.Prelude.{List, [], ◌∷◌, get_or, ℕ, ◌^◌, ℤ, pos, ◌+ℤ◌, ◌-ℤ◌, ◌*ℤ◌, unsigned_abs}
 use Rattle.std.specs.Int.Signed.{shr_z}
 use Rattle.arguments.specs.declared.Argument.{Argument}
 use Rattle.arguments.specs.declared.Argument.TheVariants.{Tau, S, H, P, Np, Ps}
-use Rattle.arguments.specs.declared.Arguments.{Arguments}
+use Rattle.arguments.specs.declared.Multipliers.{Multipliers}
+use Rattle.arguments.specs.declared.Phases.{Phases}
+use Rattle.choices.specs.Numbers.{chosen}
+use Rattle.refusals.specs.Told.{Told}
 
--- the arguments as phases
-abbrev pub Phases : Type 0
-Phases = Arguments ℕ
+-- six multipliers as a list, in the order of the arguments
+abbrev pub listed : Multipliers → List ℤ
+listed m = m.tau ∷ m.s ∷ m.h ∷ m.p ∷ m.np ∷ m.ps ∷ []
 
--- a line's multipliers of the arguments
-abbrev pub Multipliers : Type 0
-Multipliers = Arguments ℤ
+-- and six multipliers in a list
+abbrev pub unlisted : List ℤ → Multipliers
+unlisted l = record {
+  tau = get_or l 0 (pos 0);
+  s = get_or l 1 (pos 0);
+  h = get_or l 2 (pos 0);
+  p = get_or l 3 (pos 0);
+  np = get_or l 4 (pos 0);
+  ps = get_or l 5 (pos 0);
+}
+
+-- an argument crosses from C as its place in that order
+abbrev pub argument_of : ℕ → Told Argument
+argument_of number = chosen (Tau ∷ S ∷ H ∷ P ∷ Np ∷ Ps ∷ []) number
 
 -- z modulo n, for an n above 0: z less n times the floor of z / n. It is 0 .. n - 1, for z below 0 too.
 unfoldable pub modulo : ℤ → ℕ → ℕ

@@ -1,31 +1,16 @@
 -- The entries of a list: their range, and a corrected list at each place.
-use Rattle.std.proofs.Common.{◌≡◌, ℕ, zero, suc, ◌+◌, ◌^◌, ◌<◌, ◌≤◌, Bool, true, false, ◌&&◌, List, [], ◌∷◌, length, get_or, drop, ℤ, pos, ◌+ℤ◌, nat_abs, sym, refl, ap, ◌∙◌, add-one, arith, length-set, drop-cons, get_or-set_other, get_or-set_same, w64, to_z, of_z, le-leb, leb-true}
-use lib.Seq.{drop-length}
-use lib.Signed.{mag}
-use Rattle.whole.proofs.Machine.{back}
+use Rattle.std.proofs.Common.{◌≡◌, ℕ, zero, suc, ◌^◌, ◌<◌, ◌≤◌, Bool, true, ◌&&◌, List, [], ◌∷◌, length, get_or, ℤ, pos, ◌+ℤ◌, nat_abs, refl, ap, arith, length-set, get_or-set_other, get_or-set_same, le-leb, leb-true}
+use Rattle.std.specs.List.{list_all}
 use Rattle.limits.specs.Limits.{is_entry}
 use Rattle.field.specs.Field.{every_in_range}
 use Rattle.field.specs.Added.{corrected}
 use Rattle.whole.proofs.Tests.{and_left, and_right}
 
-every_step : (l : List ℤ) (i : ℕ) → i < length l → every_in_range (drop i l) ≡ (is_entry (get_or l i (pos 0)) && every_in_range (drop (i + 1) l))
+-- the test of all entries is the library's of a list
+pub every_listed : (l : List ℤ) → list_all is_entry l ≡ every_in_range l
 unfolding every_in_range
-every_step l i h = rw (add-one, drop-cons l i (pos 0) h)
-
-pub every_end : (l : List ℤ) (i : ℕ) → length l ≤ i → i ≤ length l → every_in_range (drop i l) ≡ true
-unfolding every_in_range
-every_end l i h k = let e : i ≡ length l = omega arith in rw (e, drop-length)
-
--- an entry was read and tested: r is what the test of what the machine reads back says
-module _ (l : List ℤ) (i : ℕ) (r : Bool) (h : i < length l) (m : mag (get_or l i (pos 0)) < 2 ^ 63) (e : r ≡ is_entry (to_z w64 (of_z w64 (get_or l i (pos 0))))) where
-  tested : (b : Bool) → r ≡ b → every_in_range (drop i l) ≡ (b && every_in_range (drop (i + 1) l))
-  tested b t = every_step l i h ∙ ap (λ (x : Bool). x && every_in_range (drop (i + 1) l)) (ap is_entry (sym (back w64 (get_or l i (pos 0)) m)) ∙ sym e ∙ t)
-
-  pub every_next : r ≡ true → every_in_range (drop i l) ≡ every_in_range (drop (i + 1) l)
-  every_next t = tested true t
-
-  pub every_stop : r ≡ false → every_in_range (drop i l) ≡ false
-  every_stop t = tested false t
+every_listed [] = refl
+every_listed (z ∷ zs) = ap (λ (b : Bool). is_entry z && b) (every_listed zs)
 
 -- an entry of a list in range, and what stands past its end
 pub entry_in_range : (l : List ℤ) → every_in_range l ≡ true → (k : ℕ) → nat_abs (get_or l k (pos 0)) ≤ 2 ^ 60

@@ -1,6 +1,6 @@
 -- Inner contracts, no words of 01: lists that have a sheet's places, and what adding to them leaves.
 use Rattle.std.specs.Prelude.{true, List, ◌≡◌, ℕ, ◌<◌, ℤ, length}
-use Rattle.arguments.specs.Phase.{Phases}
+use Rattle.arguments.specs.declared.Phases.{Phases}
 use Rattle.choices.specs.declared.Frame.{Frame}
 use Rattle.field.specs.Added.{added}
 use Rattle.field.specs.Field.{every_in_range}

@@ -5,11 +5,8 @@ use Rattle.choices.specs.declared.LoveModel.TheVariants.{Elastic, Anelastic}
 use Rattle.choices.specs.declared.PermanentSystem.{PermanentSystem}
 use Rattle.choices.specs.declared.PermanentSystem.TheVariants.{TideFree, Zero, Mean}
 use Rattle.refusals.specs.Told.{Told}
-use Rattle.refusals.specs.Numbers.{refusal_number}
 use Rattle.refusals.specs.Told.Told.{accepted, refused}
 use Rattle.limits.specs.Limits.{is_entry}
-use Rattle.permanent.specs.declared.Moved.{Moved}
-use Rattle.permanent.specs.declared.Moved.TheVariants.{C20, Refused}
 
 -- the permanent part: -4108147 elastic, -4200675 anelastic
 unfoldable pub permanent_part : LoveModel → ℤ
@@ -26,8 +23,3 @@ above_tide_free Mean love = permanent_part love +ℤ neg_ℤ (pos 13914129)
 unfoldable pub moved_c20 : ℤ → PermanentSystem → PermanentSystem → LoveModel → Told ℤ
 moved_c20 c20 from to love =
     cond (is_entry c20) (accepted (c20 -ℤ above_tide_free from love +ℤ above_tide_free to love)) (refused 2)
-
--- the number and the value of each answer
-abbrev pub tells : Moved → Told ℤ
-tells (C20 c20) = accepted c20
-tells (Refused r) = refused (refusal_number r)

@@ -3,19 +3,14 @@
 #![tactic(auto)]
 
 ghost use Rattle.std.specs.Prelude.{◌≡◌};
-ghost use Rattle.permanent.specs.Systems.{permanent_part, above_tide_free, moved_c20, tells};
+ghost use Rattle.permanent.specs.Systems.{permanent_part, above_tide_free, moved_c20};
+ghost use Rattle.refusals.specs.Numbers.{tells};
 
 use choices::{LoveModel, PermanentSystem};
 use refusals::Refusal;
 
 // What a mean C20 has more than a zero one, in counts: A0*H0, the tide itself.
 const MEAN_ABOVE_ZERO: i64 = -13914129;
-
-#[derive(Clone, Copy)]
-pub enum Moved {
-    C20(i64),
-    Refused(Refusal),
-}
 
 // The permanent part of C20, in counts: A0*H0*k20.
 pub fn permanent_part(love: LoveModel) -> i64
@@ -41,12 +36,17 @@ fn above_tide_free(system: PermanentSystem, love: LoveModel) -> i64
 // Given: one C20 in counts, the system it is in, the system wanted, the Love model.
 // Answered: the C20 in the system wanted, which may lie outside the range of an entry by the distance moved.
 // Refused: 2, a C20 outside -2^60..2^60.
-pub fn move_c20(c20: i64, from: PermanentSystem, to: PermanentSystem, love: LoveModel) -> Moved
+pub fn move_c20(
+    c20: i64,
+    from: PermanentSystem,
+    to: PermanentSystem,
+    love: LoveModel,
+) -> Result<i64, Refusal>
     ensures { tells result ≡ moved_c20 c20 from to love }
 {
     if limits::is_entry(c20) {
-        Moved::C20(c20 - above_tide_free(from, love) + above_tide_free(to, love))
+        Ok(c20 - above_tide_free(from, love) + above_tide_free(to, love))
     } else {
-        Moved::Refused(Refusal::FieldRange)
+        Err(Refusal::FieldRange)
     }
 }

@@ -9,23 +9,23 @@ ghost use Rattle.refusals.specs.Numbers.{answer_number};
 ghost use Rattle.whole.specs.Nearest.{nearest};
 
 use choices::LoveModel;
-use refusals::{Answer, Refusal};
+use refusals::Refusal;
 
 // In counts.
-#[derive(Clone, Copy)]
+#[derive(Clone, Copy, Debug, PartialEq, Eq)]
 pub struct Corrections {
     pub c21: i64,
     pub s21: i64,
 }
 
 // Refused: 15, an offset outside -1,000,000..1,000,000 micro-arcseconds.
-pub fn tested(xp: i64, yp: i64) -> Answer
+pub fn tested(xp: i64, yp: i64) -> Result<(), Refusal>
     ensures { answer_number result ≡ offsets_refusal xp yp }
 {
     if limits::is_pole_offset(xp) & limits::is_pole_offset(yp) {
-        Answer::Accepted
+        Ok(())
     } else {
-        Answer::Refused(Refusal::PoleOffset)
+        Err(Refusal::PoleOffset)
     }
 }
 

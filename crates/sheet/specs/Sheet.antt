@@ -1,6 +1,6 @@
 -- Document 01, "Model sheet and ocean tide": what a sheet's bytes say.
 use Rattle.std.specs.Prelude.{List, ℕ, ◌+◌, ◌*◌, ◌^◌, ℤ}
-use Rattle.arguments.specs.Phase.{Multipliers}
+use Rattle.arguments.specs.declared.Multipliers.{Multipliers}
 use Rattle.sheet.specs.declared.Column.{Column}
 use Rattle.sheet.specs.declared.Column.TheVariants.{CCos, SCos, CSin, SSin}
 use Rattle.words.specs.Words.{byte_at, half_at, word_at, twos_complement}

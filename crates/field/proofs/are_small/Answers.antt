@@ -14,9 +14,9 @@ grown l i any w before this h k b =
     let m : k ≤ i = omega arith in
     ⊎_elim (λ q. subst (λ (j : ℕ). nat_abs (get_or l j (pos 0)) ≤ 2 ^ 60) (sym q) (this both.1)) (λ s. before both.0 k s) (eq-or-lt_of_le m)
 
-pub loop-i-preserved : goal.loop-i-preserved
-loop-i-preserved c =
-    (omega arith, grown c.args.list.now c.loop-i.i c.loop-i.any c.wrapping_add_u64-any.result c.loop-i.invariant.1 (λ h. subst (λ (z : ℤ). nat_abs z ≤ 2 ^ 60) (back w64 (get_or c.args.list.now c.loop-i.i (pos 0)) (search rules)) (c.bits_of.ensures (subst (λ (w : ℕ). w < 2 ^ 61) c.wrapping_add_u64-any.ensures.value h))))
+pub loop-entry-preserved : goal.loop-entry-preserved
+loop-entry-preserved c =
+    (omega arith, grown c.args.list.now c.loop-entry.entry-index c.loop-entry.any _ c.loop-entry.invariant.1 (λ h. subst (λ (z : ℤ). nat_abs z ≤ 2 ^ 60) (back w64 (get_or c.args.list.now c.loop-entry.entry-index (pos 0)) (search rules)) (c.bits_of-raised.ensures h)))
 
 pub returns : goal.returns
-returns c e = every_small _ (λ k b. c.loop-i.invariant.1 (ltb-true _ _ e) k (omega (arith, c.loop-i-test.false)))
+returns c e = every_small _ (λ k b. c.loop-entry.invariant.1 (ltb-true _ _ e) k (omega (arith, c.loop-entry-test.false)))

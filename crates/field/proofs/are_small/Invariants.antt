@@ -2,8 +2,8 @@
 use Rattle.std.proofs.Common.{ℕ, ◌-◌, ◌^◌, ◌<◌, ◌≤◌, length, get_or, pos, nat_abs}
 use Rattle.field.proofs.are_small.Given as goal
 
-abbrev pub invariant-loop-i : goal.invariant-loop-i
-invariant-loop-i l = (l.i ≤ length l.list) × (l.any < 2 ^ 61 → (k : ℕ) → k < l.i → nat_abs (get_or l.list k (pos 0)) ≤ 2 ^ 60)
+abbrev pub invariant-loop-entry : goal.invariant-loop-entry
+invariant-loop-entry l = (l.entry-index ≤ length l.list) × (l.any < 2 ^ 61 → (k : ℕ) → k < l.entry-index → nat_abs (get_or l.list k (pos 0)) ≤ 2 ^ 60)
 
-abbrev pub decreases-loop-i : goal.decreases-loop-i
-decreases-loop-i l = length l.list - l.i
+abbrev pub decreases-loop-entry : goal.decreases-loop-entry
+decreases-loop-entry l = length l.list - l.entry-index

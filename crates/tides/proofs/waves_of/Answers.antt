@@ -8,7 +8,8 @@ use lib.IntN.{ℤ, pos, nat_abs, ◌+ℤ◌}
 use lib.ListN.{length-set}
 use mir.Syntax.{w64}
 use mir.Val.{to_z, of_z}
-use Rattle.arguments.specs.Phase.{Multipliers, phase}
+use Rattle.arguments.specs.declared.Multipliers.{Multipliers}
+use Rattle.arguments.specs.Phase.{phase}
 use Rattle.sheet.specs.Sheet.{line_count}
 use Rattle.sheet.proofs.Acceptance.{accepted}
 use Rattle.wave.specs.Wave.{sin, cos}
