@@ -14,7 +14,6 @@ use Rattle.whole.proofs.Tests.{and_right}
 use Rattle.icgem_decimal.specs.Decimal.{in_units, Taken}
 use Rattle.icgem_decimal.proofs.Tests.{and_false}
 use Rattle.icgem_file.specs.Header.{is_constant}
-use Rattle.icgem_header.specs.Inner.{NumberRead}
 
 -- minus nothing is not below zero
 sign_is : (negative : Bool) (size : ℕ) → non_neg (signed negative size) ≡ not (negative && ltb 0 size)
@@ -22,6 +21,10 @@ unfolding signed
 sign_is false size = refl
 sign_is true zero = refl
 sign_is true (suc size) = rw (lt-ltb 0 (suc size) (omega arith))
+
+pub record NumberRead (places : ℕ) (word : List ℕ) (ok : Bool) (value : ℕ) : Type 0 where
+  pub ok_is : ok ≡ is_constant places word
+  pub value_is : ok ≡ true → value ≡ nat_abs (in_units places word)
 
 module _ (places : ℕ) (word : List ℕ) where
   abbrev z : ℤ

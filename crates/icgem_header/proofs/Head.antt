@@ -1,81 +1,52 @@
--- A head's entries, and the header of a file.
-use mathlib.Core.Path.{◌≡◌, sym, ap, ◌∙◌}
-use mathlib.Core.Bool.{Bool, true, false, not, ◌&&◌}
+-- The header of a file, from its head's entries.
+use mathlib.Core.Path.{◌≡◌, refl, sym, ap, ◌∙◌}
+use mathlib.Core.Bool.{true, false, ◌&&◌}
 use mathlib.Core.List.{List}
-use Prim.Native.Nat.{ℕ, ◌+◌, ◌-◌, ◌≤◌}
-use native.Mathlib.Omega.{arith}
+use Prim.Native.Nat.{ℕ}
 use lib.IntN.{nat_abs}
-use lib.ListN.{length, take, drop, length-drop}
-use lib.Seq.{length-take-le}
-use Rattle.whole.proofs.Tests.{and_right}
+use Rattle.std.specs.Prelude.{Option}
+use Rattle.choices.specs.declared.PermanentSystem.{PermanentSystem}
 use Rattle.icgem_decimal.specs.Decimal.{is_whole, in_units}
 use Rattle.icgem_names.specs.Names as names
-use Rattle.icgem_words.specs.Inner.{part}
 use Rattle.icgem_words.specs.Words.{worded}
 use Rattle.icgem_file.specs.File.{system_said}
-use Rattle.icgem_file.specs.Header.{Line, entry, constant_name, head_of, entries_of, head_formed, constant_of, radius_of}
-use Rattle.icgem_header.specs.declared.System.{System}
-use Rattle.icgem_header.specs.Inner.{FoundLine, EntriesRead, EntriesAt}
-use Rattle.icgem_header.specs.Read.{HeaderRead}
-use Rattle.icgem_header.proofs.Words.{part_rest, drop_take, part_part}
+use Rattle.icgem_file.specs.Header.{Line, has, once, entry, constant_name, head_of, entries_of, head_formed, constant_of, radius_of}
+use Rattle.icgem_header.specs.declared.Cut.{Cut}
+use Rattle.icgem_header.specs.declared.Numbers.{Numbers}
+use Rattle.icgem_header.specs.declared.Header.{Header}
+use Rattle.icgem_header.specs.Inner.{CutAt, NumbersIn, words_fit, numbers_fit}
+use Rattle.icgem_header.specs.Read.{tells_system, HeaderIs}
+use Rattle.icgem_header.proofs.Known.{all_fit}
 
--- ---- where the entries begin
-module _ {head : List ℕ} {found again : Bool} {at end next at' end' next' : ℕ}
-    (l : FoundLine names.begin_of_head head found at end next) (a : FoundLine names.begin_of_head (part next (length head) head) again at' end' next') where
-  pub start_after : found ≡ true → EntriesAt head (not again) next
-  unfolding entries_of
-  start_after e = record {
-    once_is = rw (a.found_is, l.after_is, part_rest head next);
-    within = l.next_within;
-    entries_is = rw (← l.found_is, e) (sym l.after_is);
-  }
+pub endless : (text : List ℕ) → has names.end_of_head (worded text) ≡ false → head_formed (worded text) ≡ false
+unfolding head_formed
+endless text e = rw e
 
-  pub start_whole : found ≡ false → EntriesAt head (not again) 0
-  unfolding entries_of
-  start_whole e = record {
-    once_is = rw (a.found_is, l.after_is, part_rest head next);
-    within = omega arith;
-    entries_is = rw (← l.found_is, e);
-  }
+module _ {text : List ℕ} {cut : Cut} (c : CutAt names.end_of_head text cut) where
+  pub begun_twice : once names.begin_of_head (worded cut.before.now) ≡ false → head_formed (worded text) ≡ false
+  unfolding head_formed
+  begun_twice o = rw (c.has_is, c.before_is, o)
 
-pub at_within : {key text : List ℕ} {found : Bool} {at end next : ℕ} → FoundLine key text found at end next → at ≤ length text
-at_within l = omega (arith, l.low, l.within)
+  module _ (entries : List ℕ) (o : once names.begin_of_head (worded cut.before.now) ≡ true) (e : worded entries ≡ entries_of (worded cut.before.now)) where
+    pub entries_are : worded entries ≡ entries_of (head_of (worded text))
+    entries_are = e ∙ ap entries_of (sym c.before_is)
 
-pub start_within : {key text : List ℕ} {found begins-once : Bool} {at end next from : ℕ}
-    → FoundLine key text found at end next → EntriesAt (take at text) begins-once from → from ≤ at
-start_within {text} {at} l s = omega (arith, length-take-le at text (at_within l), s.within)
-
--- ---- the header
-module _ {text : List ℕ} {found begins-once : Bool} {at end next from : ℕ}
-    (l : FoundLine names.end_of_head text found at end next) (s : EntriesAt (take at text) begins-once from) where
-  entries_are : worded (part from at text) ≡ entries_of (head_of (worded text))
-  entries_are =
-      sym (ap worded (drop_take from at text (start_within l s) (omega (arith, start_within l s, at_within l))))
-      ∙ s.entries_is ∙ ap entries_of (sym l.before_is)
-
-  module _ {ok : Bool} {f t constant radius : ℕ} {system : System} (r : EntriesRead (part from at text) ok f t constant radius system) where
-    ended : from + t ≤ at
-    ended =
-        let e : length (part from at text) ≡ at - from = length-take-le (at - from) (drop from text) (omega (arith, length-drop from text, at_within l)) in
-        omega (arith, start_within l s, r.placed.within)
-
-    formed : ((found && begins-once) && ok) ≡ head_formed (worded text)
+    pub formed_is : head_formed (worded text) ≡ (words_fit (worded entries) && numbers_fit (worded entries))
     unfolding head_formed
-    formed = rw (l.found_is, s.once_is, r.ok_is, entries_are, ← l.before_is)
+    formed_is = rw (all_fit (worded entries), entries_are, c.has_is, c.before_is, o) refl
 
-    pub header_read : HeaderRead text ((found && begins-once) && ok) next (from + f) (from + t) constant radius system
-    unfolding constant_of radius_of
-    header_read = record {
-      ok_is = formed;
-      place_within = l.next_within;
-      data_is = l.after_is;
-      low = omega (arith, r.placed.low);
-      within = omega (arith, ended, at_within l);
-      degree_is =
-          sym (part_part text from at f t (at_within l) r.placed.low ended)
-          ∙ r.placed.word_is ∙ ap (entry names.max_degree) entries_are;
-      degree_whole = λ e. sym (ap (λ (x : List Line). is_whole (entry names.max_degree x)) entries_are) ∙ r.degree_whole (and_right (found && begins-once) ok e);
-      constant_is = λ e. r.constant_is (and_right (found && begins-once) ok e) ∙ ap (λ (x : List Line). nat_abs (in_units 0 (entry (constant_name x) x))) entries_are;
-      radius_is = λ e. r.radius_is (and_right (found && begins-once) ok e) ∙ ap (λ (x : List Line). nat_abs (in_units 3 (entry names.radius x))) entries_are;
-      system_is = r.system_is ∙ ap (λ (x : List Line). system_said (entry names.tide_system x)) entries_are;
-    }
+    module _ (w : words_fit (worded entries) ≡ true) {numbers : Numbers} (n : NumbersIn entries numbers) {system : Option PermanentSystem}
+        (s : tells_system system ≡ system_said (entry names.tide_system (worded entries))) where
+      pub header_is : (header : Header) → header.data.now ≡ cut.after.now → header.degree.now ≡ numbers.degree.now → header.constant ≡ numbers.constant
+          → header.radius ≡ numbers.radius → header.system ≡ system → HeaderIs text header
+      unfolding constant_of radius_of
+      header_is header d g k r y = record {
+        formed = rw (formed_is, w, n.fit) refl;
+        data_last = rw d c.after_last;
+        data_is = c.after_is ∙ ap worded (sym d);
+        degree_is = g ∙ n.degree_is ∙ ap (entry names.max_degree) entries_are;
+        degree_whole = sym (ap (λ (x : List Line). is_whole (entry names.max_degree x)) entries_are) ∙ n.degree_whole;
+        constant_is = k ∙ n.constant_is ∙ ap (λ (x : List Line). nat_abs (in_units 0 (entry (constant_name x) x))) entries_are;
+        radius_is = r ∙ n.radius_is ∙ ap (λ (x : List Line). nat_abs (in_units 3 (entry names.radius x))) entries_are;
+        system_is = ap tells_system y ∙ s ∙ ap (λ (x : List Line). system_said (entry names.tide_system x)) entries_are;
+      }

@@ -1,132 +1,147 @@
 -- The known entries: each, the constant's under the name that is used, and all.
 use mathlib.Core.Path.{◌≡◌, refl, sym, ap, ◌∙◌}
-use mathlib.Core.Bool.{Bool, true, false, not, ◌&&◌, ◌||◌}
-use mathlib.Core.List.{List}
-use Prim.Native.Nat.{ℕ}
-use lib.Dec.{ltb}
-use lib.IntN.{nat_abs}
+use mathlib.Core.Bool.{Bool, true, false, true≢false, not, ◌&&◌, ◌||◌}
+use mathlib.Core.List.{List, [], ◌∷◌}
+use Prim.Native.Nat.{ℕ, zero, suc, ◌+◌, ◌<◌}
+use native.Mathlib.Omega.{arith}
+use borrow.Author.Tests.{le-leb, lt-leb}
 use lib.ListN.{length}
-use Rattle.whole.proofs.Tests.{and_left, and_right}
-use Rattle.icgem_decimal.specs.Decimal.{is_whole, in_units}
-use Rattle.icgem_decimal.proofs.Tests.{and_false}
-use Rattle.icgem_names.specs.Names as names
-use Rattle.icgem_words.specs.Inner.{part}
-use Rattle.icgem_words.specs.Words.{worded, same_word}
+use Rattle.std.specs.Prelude.{Option, Some, None, MatchOption, slice_get}
+use Rattle.std.specs.Borrow.{Bor}
+use Rattle.std.proofs.lemmas.Option.{slice_get_within, get_or_from_slice_get}
+use Rattle.icgem_decimal.proofs.Tests.{either, and_false}
+use Rattle.choices.specs.declared.PermanentSystem.{PermanentSystem}
+use Rattle.text.specs.Text.{ascii}
 use Rattle.icgem_file.specs.File.{system_said}
-use Rattle.icgem_file.specs.Header.{has, entry, kept, constant_name, constant_kept, is_constant, all_kept, all_there, all_taken}
-use Rattle.icgem_header.specs.declared.System.{System}
-use Rattle.icgem_header.specs.Inner.{FoundLine, SecondWord, EntryRead, ConstantRead, NumberRead, NumbersRead, KindRead, KindsRead, EntriesRead}
+use Rattle.icgem_names.specs.Names as names
+use Rattle.icgem_names.specs.Names.{system_name}
+use Rattle.icgem_decimal.specs.Decimal.{is_whole}
+use Rattle.icgem_words.specs.Words.{words, worded, same_word}
+use Rattle.icgem_file.specs.Header.{Word, Line, word_at, has, after, first, once, entry, kept, keyed, constant_name, constant_kept, is_constant, all_kept, all_there, all_taken}
+use Rattle.icgem_header.specs.declared.Cut.{Cut}
+use Rattle.icgem_header.specs.Inner.{CutAt, ValueIn, constant_required, words_fit, numbers_fit}
 use Rattle.icgem_header.specs.Read.{tells_system}
-use Rattle.icgem_header.proofs.Words.{part_rest}
 
-pub entry_read : {key text : List ℕ} {found again : Bool} {at end next at' end' next' from to : ℕ}
-    → FoundLine key text found at end next → FoundLine key (part next (length text) text) again at' end' next' → SecondWord text at end from to
-    → EntryRead key text found (not found || (not again && ltb from to)) from to
+slice_get_none : {A : Type 0} (l : List A) (i : ℕ) → slice_get l i ≡ None → length l < i + 1
+slice_get_none [] i e = omega arith
+slice_get_none (x ∷ l) zero e = cc
+slice_get_none (x ∷ l) (suc i) e = omega (arith, slice_get_none l i e)
+
+-- ---- one entry
+pub unkept : (key : Word) (entries : List Line) → has key entries ≡ false → kept key entries ≡ true
 unfolding kept
-entry_read {text} {next} l a s = record {
-  found_is = l.found_is;
-  kept_is = rw (l.found_is, a.found_is, s.some_is, l.first_is, l.after_is, part_rest text next);
-  placed = rw l.first_is s.placed;
-}
+unkept key entries e = rw e
 
-module _ {text : List ℕ} {found keeps found' keeps' : Bool} {from to from' to' : ℕ}
-    (long : EntryRead names.gravity_constant text found keeps from to) (plain : EntryRead names.plain_constant text found' keeps' from' to') where
-  both : ((keeps && keeps') && not (found && found')) ≡ constant_kept (worded text)
+pub twice : (key : Word) (entries : List Line) → has key entries ≡ true → once key entries ≡ false → kept key entries ≡ false
+unfolding kept
+twice key entries e f = rw (e, f)
+
+module _ {key text : List ℕ} {cut : Cut} (c : CutAt key text cut) where
+  pub valueless : slice_get (words cut.line.now) 1 ≡ None → kept key (worded text) ≡ false
+  unfolding kept
+  valueless e =
+      rw (c.has_is, c.first_is, lt-leb 2 (length (words cut.line.now)) (slice_get_none (words cut.line.now) 1 e)) (and_false (once key (worded text)))
+
+  module _ (o : once key (worded text) ≡ true) {value : List ℕ} (e : slice_get (words cut.line.now) 1 ≡ Some value) where
+    pub valued : kept key (worded text) ≡ true
+    unfolding kept
+    valued = rw (c.has_is, o, c.first_is, le-leb 2 (length (words cut.line.now)) (slice_get_within (words cut.line.now) 1 value e))
+
+    pub value_is : value ≡ entry key (worded text)
+    value_is = sym (get_or_from_slice_get (words cut.line.now) 1 value [] e) ∙ ap (word_at 1) (sym c.first_is)
+
+-- ---- the constant, under one of its names
+module _ (entries : List Line) where
+  pub long_twice : kept names.gravity_constant entries ≡ false → constant_required entries ≡ false
   unfolding constant_kept
-  both = rw (long.kept_is, plain.kept_is, long.found_is, plain.found_is)
+  long_twice e = rw e
 
-  name_long : found ≡ true → constant_name (worded text) ≡ names.gravity_constant
+  pub plain_twice : kept names.plain_constant entries ≡ false → constant_required entries ≡ false
+  unfolding constant_kept
+  plain_twice e = rw (e, and_false (kept names.gravity_constant entries))
+
+  module _ (k : kept names.gravity_constant entries ≡ true) (l : kept names.plain_constant entries ≡ true) where
+    pub long_used : has names.gravity_constant entries ≡ true → has names.plain_constant entries ≡ false
+        → (constant_required entries ≡ true) × (entry names.gravity_constant entries ≡ entry (constant_name entries) entries)
+    unfolding constant_kept constant_name
+    long_used e f =
+        let name : constant_name entries ≡ names.gravity_constant = rw e in (rw (name, k, l, e, f) refl, ap (λ (key : Word). entry key entries) (sym name))
+
+    pub plain_used : has names.gravity_constant entries ≡ false → has names.plain_constant entries ≡ true
+        → (constant_required entries ≡ true) × (entry names.plain_constant entries ≡ entry (constant_name entries) entries)
+    unfolding constant_kept constant_name
+    plain_used e f =
+        let name : constant_name entries ≡ names.plain_constant = rw e in (rw (name, k, l, e, f) refl, ap (λ (key : Word). entry key entries) (sym name))
+
+  pub both_used : has names.gravity_constant entries ≡ true → has names.plain_constant entries ≡ true → constant_required entries ≡ false
+  unfolding constant_kept
+  both_used e f = rw (e, f, and_false (kept names.gravity_constant entries && kept names.plain_constant entries)) refl
+
+  pub none_used : has names.gravity_constant entries ≡ false → has names.plain_constant entries ≡ false → constant_required entries ≡ false
   unfolding constant_name
-  name_long e = rw (← long.found_is, e)
+  none_used e f = rw (e, f) (and_false (constant_kept entries))
 
-  name_plain : found ≡ false → constant_name (worded text) ≡ names.plain_constant
-  unfolding constant_name
-  name_plain e = rw (← long.found_is, e)
+-- ---- an entry that is not there
+none_after : (key : Word) (entries : List Line) → has key entries ≡ false → after key entries ≡ []
+unfolding has after
+none_after key [] e = refl
+none_after key (line ∷ others) e =
+    either (keyed key line) (λ t. absurd (true≢false (rw t at e))) (λ t. rw t (none_after key others (rw t at e)))
 
-  pub constant_long : found ≡ true → ConstantRead text true ((keeps && keeps') && not (found && found')) from to
-  constant_long e = record { found_is = rw (name_long e) (sym e ∙ long.found_is); kept_is = both; placed = rw (name_long e) long.placed }
+pub never_twice : (key : Word) (entries : List Line) → has key entries ≡ false → once key entries ≡ true
+unfolding has
+never_twice key entries e = rw (none_after key entries e)
 
-  pub constant_plain : found ≡ false → ConstantRead text found' ((keeps && keeps') && not (found && found')) from' to'
-  constant_plain e = record { found_is = rw (name_plain e) plain.found_is; kept_is = both; placed = rw (name_plain e) plain.placed }
+none_first : (key : Word) (entries : List Line) → has key entries ≡ false → entry key entries ≡ []
+unfolding has first
+none_first key [] e = refl
+none_first key (line ∷ others) e =
+    either (keyed key line) (λ t. absurd (true≢false (rw t at e))) (λ t. rw t (none_first key others (rw t at e)))
 
--- ---- the entries with numbers
-pub numbers_read : {text : List ℕ} {found keeps found' keeps' found'' keeps'' ok ok' whole : Bool} {from to from' to' from'' to'' value value' : ℕ}
-    → ConstantRead text found keeps from to → EntryRead names.radius text found' keeps' from' to' → EntryRead names.max_degree text found'' keeps'' from'' to''
-    → NumberRead 0 (part from to text) ok value → NumberRead 3 (part from' to' text) ok' value' → whole ≡ is_whole (part from'' to'' text)
-    → NumbersRead text (keeps && (keeps' && keeps'')) (found && (found' && found'')) (whole && (ok && ok')) from'' to'' value value'
-numbers_read {ok} {ok'} {whole} c r d n m w = record {
-  kept_is = rw (c.kept_is, r.kept_is, d.kept_is);
-  there_is = rw (c.found_is, r.found_is, d.found_is);
-  taken_is = rw (w, n.ok_is, m.ok_is, c.placed.word_is, r.placed.word_is, d.placed.word_is);
-  placed = d.placed;
-  constant_is = λ e. n.value_is (and_left ok ok' (and_right whole (ok && ok') e)) ∙ ap (λ (v : List ℕ). nat_abs (in_units 0 v)) c.placed.word_is;
-  radius_is = λ e. m.value_is (and_right ok ok' (and_right whole (ok && ok') e)) ∙ ap (λ (v : List ℕ). nat_abs (in_units 3 v)) r.placed.word_is;
-}
+-- ---- words behind keywords
+module _ (key text : List ℕ) where
+  abbrev Told : Option (Bor (List ℕ)) → Type 0
+  Told found = MatchOption found (has key (worded text) ≡ false) (λ value. (has key (worded text) ≡ true) × ValueIn text (entry key (worded text)) value.now)
 
--- ---- the entries with words
-pub kind_read : {key word text : List ℕ} {found keeps same : Bool} {from to : ℕ}
-    → EntryRead key text found keeps from to → same ≡ same_word (part from to text) word → KindRead key word text found keeps same
-kind_read {word} r s = record { found_is = r.found_is; kept_is = r.kept_is; same_is = s ∙ ap (λ (v : List ℕ). same_word v word) r.placed.word_is }
+  pub word_is : (found : Option (Bor (List ℕ))) → Told found → (word : Word) (r : Bool)
+      → MatchOption found (r ≡ true) (λ v. r ≡ same_word v.now word) → (not (has key (worded text)) || same_word (entry key (worded text)) word) ≡ r
+  word_is None f word r h = rw (f, h) refl
+  word_is (Some v) f word r h = rw (f.0, ← f.1.value_is, h) refl
 
-pub kinds_read : {text : List ℕ} {f f₁ f₂ f₃ f₄ k k₁ k₂ k₃ k₄ s s₃ : Bool} {from₁ to₁ from₂ to₂ from₄ to₄ : ℕ} {system : System}
-    → KindRead names.product_type names.gravity_field text f k s → EntryRead names.model_name text f₁ k₁ from₁ to₁ → EntryRead names.errors text f₂ k₂ from₂ to₂
-    → KindRead names.norm names.fully_normalized text f₃ k₃ s₃ → EntryRead names.tide_system text f₄ k₄ from₄ to₄ → tells_system system ≡ system_said (part from₄ to₄ text)
-    → KindsRead text (k && (k₁ && (k₂ && (k₃ && k₄)))) f (s && (not f₃ || s₃)) system
-kinds_read p m e n t y = record {
-  kept_is = rw (p.kept_is, m.kept_is, e.kept_is, n.kept_is, t.kept_is);
-  there_is = p.found_is;
-  taken_is = rw (p.same_is, n.found_is, n.same_is);
-  system_is = y ∙ ap system_said t.placed.word_is;
-}
+  pub system_is : (found : Option (Bor (List ℕ))) → Told found → (r : Option PermanentSystem) {P : Bor (List ℕ) → Type 0}
+      → MatchOption found (r ≡ None) P → ((v : Bor (List ℕ)) → P v → tells_system r ≡ system_said v.now) → tells_system r ≡ system_said (entry key (worded text))
+  unfolding system_said system_name same_word ascii
+  system_is None f r h p = rw (h, none_first key (worded text) f) refl
+  system_is (Some v) f r h p = p v h ∙ ap system_said f.1.value_is
 
--- ---- all of them
-and_true : (a : Bool) → (a && true) ≡ a
-and_true true = refl
-and_true false = refl
+-- ---- the entries with words and those with numbers are all
+fits : (p p' m e n t s u c c' r r' d d' w k l : Bool)
+    → (((p && p') && (m && (e && (n && (t && (s && u)))))) && ((c && c') && ((r && r') && ((d && d') && (w && (k && l))))))
+    ≡ ((c && (p && (m && (r && (d && (e && (n && t))))))) && ((p' && (c' && (r' && d'))) && (s && (u && (w && (k && l))))))
+fits false p' m e n t s u c c' r r' d d' w k l = simp and_false
+fits true false m e n t s u c c' r r' d d' w k l = simp and_false
+fits true true false e n t s u c c' r r' d d' w k l = simp and_false
+fits true true true false n t s u c c' r r' d d' w k l = simp and_false
+fits true true true true false t s u c c' r r' d d' w k l = simp and_false
+fits true true true true true false s u c c' r r' d d' w k l = simp and_false
+fits true true true true true true false u c c' r r' d d' w k l = simp and_false
+fits true true true true true true true false c c' r r' d d' w k l = simp and_false
+fits true true true true true true true true false c' r r' d d' w k l = simp and_false
+fits true true true true true true true true true false r r' d d' w k l = simp and_false
+fits true true true true true true true true true true false r' d d' w k l = simp and_false
+fits true true true true true true true true true true true false d d' w k l = simp and_false
+fits true true true true true true true true true true true true false d' w k l = simp and_false
+fits true true true true true true true true true true true true true false w k l = simp and_false
+fits true true true true true true true true true true true true true true false k l = simp and_false
+fits true true true true true true true true true true true true true true true false l = simp and_false
+fits true true true true true true true true true true true true true true true true false = simp and_false
+fits true true true true true true true true true true true true true true true true true = refl
 
-kept_both : (c p m r d others : Bool) → ((p && (m && others)) && (c && (r && d))) ≡ (c && (p && (m && (r && (d && others)))))
-kept_both false p m r d others = and_false (p && (m && others))
-kept_both true false m r d others = refl
-kept_both true true false r d others = refl
-kept_both true true true false d others = and_false others
-kept_both true true true true false others = and_false others
-kept_both true true true true true others = and_true others
-
-taken_both : (a b c : Bool) → ((a && b) && c) ≡ (a && (b && c))
-taken_both true b c = refl
-taken_both false b c = refl
-
-module _ {text : List ℕ} {keeps there taken keeps' there' taken' : Bool} {from to constant radius : ℕ} {system : System}
-    (k : KindsRead text keeps there taken system) (n : NumbersRead text keeps' there' taken' from to constant radius) where
-  all-kept : (keeps && keeps') ≡ all_kept (worded text)
-  unfolding all_kept
-  all-kept =
-      let e = worded text in
-      rw (k.kept_is, n.kept_is)
-      (kept_both (constant_kept e) (kept names.product_type e) (kept names.model_name e) (kept names.radius e) (kept names.max_degree e)
-      (kept names.errors e && (kept names.norm e && kept names.tide_system e)))
-
-  all_there_lem : (there && there') ≡ all_there (worded text)
-  unfolding all_there
-  all_there_lem = rw (k.there_is, n.there_is)
-
-  all-taken : (taken && taken') ≡ all_taken (worded text)
-  unfolding all_taken
-  all-taken =
-      let e = worded text in
-      rw (k.taken_is, n.taken_is)
-      (taken_both (same_word (entry names.product_type e) names.gravity_field) (not (has names.norm e) || same_word (entry names.norm e) names.fully_normalized)
-      (is_whole (entry names.max_degree e) && (is_constant 0 (entry (constant_name e) e) && is_constant 3 (entry names.radius e))))
-
-  pub entries_read : EntriesRead text ((keeps && keeps') && ((there && there') && (taken && taken'))) from to constant radius system
-  entries_read = record {
-    ok_is = rw (all-kept, all_there_lem, all-taken);
-    placed = n.placed;
-    degree_whole = λ e. and_left (is_whole (entry names.max_degree (worded text))) _ (sym n.taken_is ∙ numbers_taken e);
-    constant_is = λ e. n.constant_is (numbers_taken e);
-    radius_is = λ e. n.radius_is (numbers_taken e);
-    system_is = k.system_is;
-  }
-    where
-      numbers_taken : ((keeps && keeps') && ((there && there') && (taken && taken'))) ≡ true → taken' ≡ true
-      numbers_taken e = and_right taken taken' (and_right (there && there') (taken && taken') (and_right (keeps && keeps') ((there && there') && (taken && taken')) e))
+pub all_fit : (entries : List Line) → (words_fit entries && numbers_fit entries) ≡ (all_kept entries && (all_there entries && all_taken entries))
+unfolding words_fit numbers_fit all_kept all_there all_taken
+all_fit entries =
+    fits (kept names.product_type entries) (has names.product_type entries) (kept names.model_name entries) (kept names.errors entries) (kept names.norm entries)
+    (kept names.tide_system entries) (same_word (entry names.product_type entries) names.gravity_field)
+    (not (has names.norm entries) || same_word (entry names.norm entries) names.fully_normalized) (constant_kept entries) (has (constant_name entries) entries)
+    (kept names.radius entries) (has names.radius entries) (kept names.max_degree entries) (has names.max_degree entries) (is_whole (entry names.max_degree entries))
+    (is_constant 0 (entry (constant_name entries) entries)) (is_constant 3 (entry names.radius entries))

@@ -2,21 +2,22 @@
 use mathlib.Core.Path.{◌≡◌, refl, sym, ap, subst, ◌∙◌}
 use mathlib.Core.Bool.{true, false}
 use mathlib.Core.List.{List, [], ◌∷◌, ◌++◌, append-nil, append_assoc}
-use Prim.Native.Nat.{ℕ, ◌+◌, ◌-◌, ◌≤◌, ◌<◌}
+use Prim.Native.Nat.{ℕ, ◌+◌, ◌-◌, ◌≤◌, ◌<◌, min}
 use native.Mathlib.Numerals.{add-one}
 use native.Mathlib.Omega.{arith}
 use borrow.Author.Tests.{not-false, ltb-true, ltb-false}
 use lib.Dec.{T, ltb}
-use lib.ListN.{length, get_or, take, drop, take-append-drop}
-use lib.Seq.{take_all, take-suc, take-add}
+use lib.ListN.{length, get_or, take, drop, length-drop, take-append-drop}
+use lib.Seq.{take_all, take-suc, take-add, length-take-le}
 use Rattle.icgem_decimal.proofs.Tests.{either}
 use Rattle.icgem_words.specs.Inner.{part, ahead, in_line, Run}
 use Rattle.icgem_words.specs.Words.{words, worded, same_word, nonempty, pieces}
-use Rattle.icgem_words.proofs.Joined.{words_none, worded_then}
+use Rattle.icgem_words.proofs.Joined.{worded_then}
 use Rattle.icgem_words.proofs.Read.{worded_from, worded_past}
 use Rattle.icgem_file.specs.Header.{Word, Line, keyed, has, before, after, first}
-use Rattle.icgem_header.specs.Inner.{past_end, FoundLine}
-use Rattle.icgem_header.proofs.Words.{part_none}
+use Rattle.icgem_header.specs.declared.Cut.{Cut}
+use Rattle.icgem_header.specs.Inner.{CutAt}
+use Rattle.icgem_header.proofs.Words.{part_rest}
 
 -- ---- a line, where it has a word, in front of others
 -- one without the key changes nothing but what stands before the first that has it
@@ -51,6 +52,10 @@ opens key (word ∷ more) others some e = record { has_is = rw e; before_is = rw
 ahead_joined : {A : Type 0} (piece : List A) (others : List (List A)) → ahead piece others ≡ ahead piece [] ++ others
 ahead_joined [] others = refl
 ahead_joined (x ∷ piece) others = refl
+
+-- the place after a line's end, where the text goes on
+abbrev pub past_end : ℕ → ℕ → ℕ
+past_end end size = min (end + 1) size
 
 -- ---- a place that lines without the key lead to
 -- a line starts at the place: what stands before it has its own lines, whatever follows
@@ -152,30 +157,27 @@ module _ {key text : List ℕ} {at end : ℕ} (p : Reached key text at) (h : at 
         splits = splits_next r (p.splits h);
       }
 
-  pub found_here : 0 < length key → keyed key (words (part at end text)) ≡ true → FoundLine key text true at end (past_end end (length text))
-  found_here some e =
+  pub cut_here : 0 < length key → keyed key (words (part at end text)) ≡ true → (cut : Cut)
+      → cut.before.now ≡ take at text → cut.line.now ≡ part at end text → cut.after.now ≡ part (past_end end (length text)) (length text) text → CutAt key text cut
+  cut_here some e cut b l a =
       let o = opens key (words (part at end text)) (worded (drop (past_end end (length text)) text)) some e in
+      let last = a ∙ part_rest text (past_end end (length text)) in
+      let size : length cut.after.now ≡ length text - past_end end (length text) = ap length last ∙ length-drop (past_end end (length text)) text in
+      let place : length text - length cut.after.now ≡ past_end end (length text) = omega arith in
       record {
-        low = r.low;
-        within = r.within;
-        next_within = omega arith;
-        found_is = sym (p.has_is ∙ ap (has key) (from_line r) ∙ o.has_is);
-        before_is = before_line ∙ ap (λ (l : List Line). worded (take at text) ++ l) o.before_is ∙ append-nil (worded (take at text));
-        first_is = p.first_is ∙ ap (first key) (from_line r) ∙ o.first_is;
-        after_is = p.after_is ∙ ap (after key) (from_line r) ∙ o.after_is;
+        before_short = omega (arith, ap length b, length-take-le at text p.within);
+        line_short = omega (arith, ap length l, length-take-le (end - at) (drop at text) (omega (arith, r.within, length-drop at text)));
+        after_last = rw place last;
+        has_is = p.has_is ∙ ap (has key) (from_line r) ∙ o.has_is;
+        before_is = before_line ∙ ap (λ (l : List Line). worded (take at text) ++ l) o.before_is ∙ append-nil (worded (take at text)) ∙ ap worded (sym b);
+        first_is = p.first_is ∙ ap (first key) (from_line r) ∙ o.first_is ∙ ap words (sym l);
+        after_is = p.after_is ∙ ap (after key) (from_line r) ∙ o.after_is ∙ ap worded (sym last);
       }
 
 -- no line is left
-pub found_none : {key text : List ℕ} {at : ℕ} → Reached key text at → length text ≤ at → FoundLine key text false at at at
-unfolding has before first after
-found_none {key} {text} {at} p h =
-    let e = worded_past text at h in
-    record {
-      low = omega arith;
-      within = p.within;
-      next_within = p.within;
-      found_is = sym (p.has_is ∙ ap (has key) e);
-      before_is = p.before_is ∙ ap (λ (l : List Line). worded (take at text) ++ before key l) e ∙ append-nil (worded (take at text));
-      first_is = p.first_is ∙ ap (first key) e ∙ sym (ap words (part_none at at text (omega arith)) ∙ words_none);
-      after_is = p.after_is ∙ ap (after key) e ∙ sym e;
-    }
+pub none_left : {key text : List ℕ} {at : ℕ} → Reached key text at → length text ≤ at → has key (worded text) ≡ false
+unfolding has
+none_left {key} {text} {at} p h = p.has_is ∙ ap (has key) (worded_past text at h)
+
+pub after_short : {key text : List ℕ} {cut : Cut} → CutAt key text cut → length cut.after.now ≤ length text
+after_short {text} {cut} c = omega (arith, ap length c.after_last, length-drop (length text - length cut.after.now) text)

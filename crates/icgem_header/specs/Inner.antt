@@ -1,99 +1,116 @@
 -- Inner contracts, no words of 02: what the functions that read a header say to one another.
-use Rattle.std.specs.Prelude.{◌≡◌, Bool, true, not, ◌&&◌, ◌||◌, List, ℕ, ◌+◌, ◌≤◌, min, leb, ltb, nat_abs, length, take, drop}
+use Rattle.std.specs.Prelude.{◌≡◌, Bool, true, false, not, ◌&&◌, ◌||◌, List, ℕ, ◌-◌, ◌≤◌, nat_abs, length, drop, Option, Result, MatchOption, MatchResult}
+use Rattle.std.specs.Borrow.{Bor}
+use Rattle.choices.specs.declared.PermanentSystem.{PermanentSystem}
 use Rattle.icgem_decimal.specs.Decimal.{is_whole, in_units}
 use Rattle.icgem_names.specs.Names as names
-use Rattle.icgem_words.specs.Inner.{part}
 use Rattle.icgem_words.specs.Words.{words, worded, same_word}
 use Rattle.icgem_file.specs.File.{system_said}
-use Rattle.icgem_file.specs.Header.{word_at, has, before, after, first, once, kept, entry, entries_of, constant_name, constant_kept, is_constant, all_kept, all_there, all_taken}
-use Rattle.icgem_header.specs.declared.System.{System}
+use Rattle.icgem_file.specs.Header.{Word, Line, has, before, after, first, once, kept, entry, entries_of, constant_name, constant_kept, is_constant}
+use Rattle.icgem_header.specs.declared.Malformed.{Malformed}
+use Rattle.icgem_header.specs.declared.Cut.{Cut}
+use Rattle.icgem_header.specs.declared.Numbers.{Numbers}
 use Rattle.icgem_header.specs.Read.{tells_system}
 
--- the place after a line's end, where the text goes on
-abbrev pub past_end : ℕ → ℕ → ℕ
-past_end end size = min (end + 1) size
+-- a text cut at the first line with a key; what stands after the line is the text's end
+pub record CutAt (key text : List ℕ) (cut : Cut) : Type 0 where
+  pub before_short : length cut.before.now ≤ length text
+  pub line_short : length cut.line.now ≤ length text
+  pub after_last : cut.after.now ≡ drop (length text - length cut.after.now) text
+  pub has_is : has key (worded text) ≡ true
+  pub before_is : before key (worded text) ≡ worded cut.before.now
+  pub first_is : first key (worded text) ≡ words cut.line.now
+  pub after_is : after key (worded text) ≡ worded cut.after.now
 
--- the first line with a key, from `at` to `end`, and the place after it; all three are the text's end where there is none
-pub record FoundLine (key text : List ℕ) (found : Bool) (at end next : ℕ) : Type 0 where
-  pub low : at ≤ end
-  pub within : end ≤ length text
-  pub next_within : next ≤ length text
-  pub found_is : found ≡ has key (worded text)
-  pub before_is : before key (worded text) ≡ worded (take at text)
-  pub first_is : first key (worded text) ≡ words (part at end text)
-  pub after_is : after key (worded text) ≡ worded (drop next text)
+abbrev pub LineFound : List ℕ → List ℕ → Option Cut → Type 0
+LineFound key text found = MatchOption found (has key (worded text) ≡ false) (CutAt key text)
 
--- a word's place in a text
-pub record Placed (text word : List ℕ) (from to : ℕ) : Type 0 where
-  pub low : from ≤ to
-  pub within : to ≤ length text
-  pub word_is : part from to text ≡ word
+abbrev pub LineSingle : List ℕ → List ℕ → Result (Option Cut) Malformed → Type 0
+LineSingle key text result =
+    MatchResult result
+    (λ found. MatchOption found (has key (worded text) ≡ false) (λ cut. CutAt key text cut × (once key (worded text) ≡ true)))
+    (λ malformed. (has key (worded text) ≡ true) × (once key (worded text) ≡ false))
 
--- the second word of the line from `at` to `end`, empty where there is none
-pub record SecondWord (text : List ℕ) (at end from to : ℕ) : Type 0 where
-  pub placed : Placed text (word_at 1 (words (part at end text))) from to
-  pub some_is : ltb from to ≡ leb 2 (length (words (part at end text)))
+-- a value in a text
+pub record ValueIn (text word : List ℕ) (value : List ℕ) : Type 0 where
+  pub short : length value ≤ length text
+  pub value_is : value ≡ word
 
 -- a known entry
-pub record EntryRead (key text : List ℕ) (found keeps : Bool) (from to : ℕ) : Type 0 where
-  pub found_is : found ≡ has key (worded text)
-  pub kept_is : keeps ≡ kept key (worded text)
-  pub placed : Placed text (entry key (worded text)) from to
+abbrev pub EntryRead : List ℕ → List ℕ → Result (Option (Bor (List ℕ))) Malformed → Type 0
+EntryRead key text result =
+    MatchResult result
+    (λ found. (kept key (worded text) ≡ true)
+    × MatchOption found (has key (worded text) ≡ false) (λ value. (has key (worded text) ≡ true) × ValueIn text (entry key (worded text)) value.now))
+    (λ malformed. kept key (worded text) ≡ false)
+
+-- one that has to be there
+abbrev pub required : Word → List Line → Bool
+required key entries = kept key entries && has key entries
+
+abbrev pub RequiredRead : List ℕ → List ℕ → Result (Bor (List ℕ)) Malformed → Type 0
+RequiredRead key text result =
+    MatchResult result
+    (λ value. (required key (worded text) ≡ true) × ValueIn text (entry key (worded text)) value.now)
+    (λ malformed. required key (worded text) ≡ false)
 
 -- the constant's, under the name that is used
-pub record ConstantRead (text : List ℕ) (found keeps : Bool) (from to : ℕ) : Type 0 where
-  pub found_is : found ≡ has (constant_name (worded text)) (worded text)
-  pub kept_is : keeps ≡ constant_kept (worded text)
-  pub placed : Placed text (entry (constant_name (worded text)) (worded text)) from to
+abbrev pub constant_required : List Line → Bool
+constant_required entries = constant_kept entries && has (constant_name entries) entries
+
+abbrev pub ConstantRead : List ℕ → Result (Bor (List ℕ)) Malformed → Type 0
+ConstantRead text result =
+    MatchResult result
+    (λ value. (constant_required (worded text) ≡ true) × ValueIn text (entry (constant_name (worded text)) (worded text)) value.now)
+    (λ malformed. constant_required (worded text) ≡ false)
 
 -- a constant
-pub record NumberRead (places : ℕ) (word : List ℕ) (ok : Bool) (value : ℕ) : Type 0 where
-  pub ok_is : ok ≡ is_constant places word
-  pub value_is : ok ≡ true → value ≡ nat_abs (in_units places word)
+abbrev pub ConstantTaken : ℕ → List ℕ → Result ℕ Malformed → Type 0
+ConstantTaken places word result =
+    MatchResult result
+    (λ value. (is_constant places word ≡ true) × (value ≡ nat_abs (in_units places word)))
+    (λ malformed. is_constant places word ≡ false)
 
 -- the entries with numbers
-pub record NumbersRead (text : List ℕ) (keeps there taken : Bool) (from to constant radius : ℕ) : Type 0 where
-  pub kept_is : keeps ≡ (constant_kept (worded text) && (kept names.radius (worded text) && kept names.max_degree (worded text)))
-  pub there_is : there ≡ (has (constant_name (worded text)) (worded text) && (has names.radius (worded text) && has names.max_degree (worded text)))
-  pub taken_is :
-      taken
-      ≡ (is_whole (entry names.max_degree (worded text))
-      && (is_constant 0 (entry (constant_name (worded text)) (worded text)) && is_constant 3 (entry names.radius (worded text))))
-  pub placed : Placed text (entry names.max_degree (worded text)) from to
-  pub constant_is : taken ≡ true → constant ≡ nat_abs (in_units 0 (entry (constant_name (worded text)) (worded text)))
-  pub radius_is : taken ≡ true → radius ≡ nat_abs (in_units 3 (entry names.radius (worded text)))
+unfoldable pub numbers_fit : List Line → Bool
+numbers_fit entries =
+    constant_required entries
+    && (required names.radius entries
+    && (required names.max_degree entries
+    && (is_whole (entry names.max_degree entries)
+    && (is_constant 0 (entry (constant_name entries) entries) && is_constant 3 (entry names.radius entries)))))
 
--- an entry whose value should be a given word
-pub record KindRead (key word text : List ℕ) (found keeps same : Bool) : Type 0 where
-  pub found_is : found ≡ has key (worded text)
-  pub kept_is : keeps ≡ kept key (worded text)
-  pub same_is : same ≡ same_word (entry key (worded text)) word
+pub record NumbersIn (text : List ℕ) (numbers : Numbers) : Type 0 where
+  pub fit : numbers_fit (worded text) ≡ true
+  pub degree_is : numbers.degree.now ≡ entry names.max_degree (worded text)
+  pub degree_whole : is_whole (entry names.max_degree (worded text)) ≡ true
+  pub constant_is : numbers.constant ≡ nat_abs (in_units 0 (entry (constant_name (worded text)) (worded text)))
+  pub radius_is : numbers.radius ≡ nat_abs (in_units 3 (entry names.radius (worded text)))
+
+abbrev pub NumbersRead : List ℕ → Result Numbers Malformed → Type 0
+NumbersRead text result = MatchResult result (NumbersIn text) (λ malformed. numbers_fit (worded text) ≡ false)
 
 -- the entries with words
-pub record KindsRead (text : List ℕ) (keeps there taken : Bool) (system : System) : Type 0 where
-  pub kept_is :
-      keeps
-      ≡ (kept names.product_type (worded text)
-      && (kept names.model_name (worded text)
-      && (kept names.errors (worded text) && (kept names.norm (worded text) && kept names.tide_system (worded text)))))
-  pub there_is : there ≡ has names.product_type (worded text)
-  pub taken_is :
-      taken
-      ≡ (same_word (entry names.product_type (worded text)) names.gravity_field
-      && (not (has names.norm (worded text)) || same_word (entry names.norm (worded text)) names.fully_normalized))
-  pub system_is : tells_system system ≡ system_said (entry names.tide_system (worded text))
+unfoldable pub words_fit : List Line → Bool
+words_fit entries =
+    required names.product_type entries
+    && (kept names.model_name entries
+    && (kept names.errors entries
+    && (kept names.norm entries
+    && (kept names.tide_system entries
+    && (same_word (entry names.product_type entries) names.gravity_field
+    && (not (has names.norm entries) || same_word (entry names.norm entries) names.fully_normalized))))))
 
--- all entries
-pub record EntriesRead (text : List ℕ) (ok : Bool) (from to constant radius : ℕ) (system : System) : Type 0 where
-  pub ok_is : ok ≡ (all_kept (worded text) && (all_there (worded text) && all_taken (worded text)))
-  pub placed : Placed text (entry names.max_degree (worded text)) from to
-  pub degree_whole : ok ≡ true → is_whole (entry names.max_degree (worded text)) ≡ true
-  pub constant_is : ok ≡ true → constant ≡ nat_abs (in_units 0 (entry (constant_name (worded text)) (worded text)))
-  pub radius_is : ok ≡ true → radius ≡ nat_abs (in_units 3 (entry names.radius (worded text)))
-  pub system_is : tells_system system ≡ system_said (entry names.tide_system (worded text))
+abbrev pub WordsRead : List ℕ → Result (Option PermanentSystem) Malformed → Type 0
+WordsRead text result =
+    MatchResult result
+    (λ system. (words_fit (worded text) ≡ true) × (tells_system system ≡ system_said (entry names.tide_system (worded text))))
+    (λ malformed. words_fit (worded text) ≡ false)
 
--- where the entries of a head begin
-pub record EntriesAt (head : List ℕ) (begins-once : Bool) (from : ℕ) : Type 0 where
-  pub once_is : begins-once ≡ once names.begin_of_head (worded head)
-  pub within : from ≤ length head
-  pub entries_is : worded (drop from head) ≡ entries_of (worded head)
+-- where the entries of a head stand
+abbrev pub EntriesFound : List ℕ → Result (Bor (List ℕ)) Malformed → Type 0
+EntriesFound head result =
+    MatchResult result
+    (λ entries. (once names.begin_of_head (worded head) ≡ true)
+    × ((length entries.now ≤ length head) × (worded entries.now ≡ entries_of (worded head))))
+    (λ malformed. once names.begin_of_head (worded head) ≡ false)

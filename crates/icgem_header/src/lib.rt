@@ -2,374 +2,252 @@
 
 #![tactic(auto)]
 
-ghost use Rattle.std.specs.Prelude.{◌≡◌, ◌≤◌, ◌<◌, length};
+ghost use Rattle.std.specs.Prelude.{◌≡◌, ◌≤◌, ◌<◌, true, length, option_copied, slice_get, IfSome, MatchOption};
 ghost use Rattle.icgem_decimal.specs.Decimal.{is_whole};
 ghost use Rattle.icgem_file.specs.File.{system_said};
 ghost use Rattle.icgem_file.specs.Header.{keyed};
-ghost use Rattle.icgem_words.specs.Inner.{part};
-ghost use Rattle.icgem_words.specs.Words.{words};
-ghost use Rattle.icgem_header.specs.Inner.{past_end, FoundLine, SecondWord, EntryRead, ConstantRead, NumberRead};
-ghost use Rattle.icgem_header.specs.Inner.{NumbersRead, KindRead, KindsRead, EntriesRead, EntriesAt};
+ghost use Rattle.icgem_words.specs.Words.{words, same_word};
+ghost use Rattle.icgem_header.specs.Inner.{LineFound, LineSingle, EntryRead, RequiredRead, ConstantRead, ConstantTaken, NumbersRead, WordsRead, EntriesFound};
 ghost use Rattle.icgem_header.specs.Read.{tells_system, HeaderRead};
 
 use choices::PermanentSystem;
-use icgem_words::Span;
+use refusals::Refusal;
 
-// The first line with a key, and where the next line begins; all at the text's end where there is none.
-#[derive(Clone, Copy)]
-struct Found {
-    found: bool,
-    at: usize,
-    end: usize,
-    next: usize,
+// A header that is not as it should be.
+#[derive(Clone, Copy, Debug, PartialEq, Eq)]
+pub struct Malformed;
+
+impl From<Malformed> for Refusal {
+    ghost use Rattle.std.specs.Prelude.{◌≡◌};
+    ghost use Rattle.refusals.specs.declared.Refusal.TheVariants.{FileForm};
+
+    ghost from_gives = { λ malformed why. why ≡ FileForm };
+
+    fn from(_malformed: Malformed) -> Refusal {
+        Refusal::FileForm
+    }
 }
 
-// Whether a known entry is there, whether it stands once at most and has a value, and the value's place.
+// A text cut at a line: what stands before it, its bytes, and what stands after its end.
 #[derive(Clone, Copy)]
-struct Entry {
-    found: bool,
-    kept: bool,
-    from: usize,
-    to: usize,
+struct Cut<'a> {
+    before: &'a [u8],
+    line: &'a [u8],
+    after: &'a [u8],
 }
 
+// The entries whose values are numbers: the degree's word, m3/s2 and millimetres.
 #[derive(Clone, Copy)]
-struct Number {
-    ok: bool,
-    value: u64,
-}
-
-// The entries whose values are numbers; `from` and `to` are the degree's.
-#[derive(Clone, Copy)]
-struct Numbers {
-    kept: bool,
-    there: bool,
-    taken: bool,
-    from: usize,
-    to: usize,
+struct Numbers<'a> {
+    degree: &'a [u8],
     constant: u64,
     radius: u64,
 }
 
-// A permanent system that is named, or none of the three.
+// The lines of data, the degree's word, m3/s2, millimetres, and the system, where one of the three is named.
 #[derive(Clone, Copy)]
-pub enum System {
-    Said(PermanentSystem),
-    Unknown,
-}
-
-// An entry, and whether its value is a given word.
-#[derive(Clone, Copy)]
-struct Kind {
-    found: bool,
-    kept: bool,
-    same: bool,
-}
-
-// The entries whose values are words.
-#[derive(Clone, Copy)]
-struct Kinds {
-    kept: bool,
-    there: bool,
-    taken: bool,
-    system: System,
-}
-
-#[derive(Clone, Copy)]
-struct Entries {
-    ok: bool,
-    from: usize,
-    to: usize,
-    constant: u64,
-    radius: u64,
-    system: System,
-}
-
-// Where the entries begin, and whether begin_of_head stands once at most.
-#[derive(Clone, Copy)]
-struct Start {
-    once: bool,
-    from: usize,
-}
-
-// Where the data begin, the place of the degree's word, m3/s2, millimetres, and the system.
-#[derive(Clone, Copy)]
-pub struct Header {
-    pub ok: bool,
-    pub data: usize,
-    pub from: usize,
-    pub to: usize,
+pub struct Header<'a> {
+    pub data: &'a [u8],
+    pub degree: &'a [u8],
     pub constant: u64,
     pub radius: u64,
-    pub system: System,
+    pub system: Option<PermanentSystem>,
 }
 
 fn is_keyed(line: &[u8], key: &[u8]) -> bool
     ensures { result ≡ keyed key.now (words line.now) }
 {
-    let word = icgem_words::next_word(line, 0);
-    let from = word.from;
-    let to = word.to;
-    icgem_words::same_word(&line[from..to], key)
-}
-
-// The place after a line's end.
-fn past_end(end: usize, length: usize) -> usize
-    requires { end ≤ length }
-    ensures { result ≡ past_end end length }
-{
-    if end < length { end + 1 } else { end }
+    icgem_words::same_word(icgem_words::next_word(line, 0).of(line), key)
 }
 
 // The first line whose first word is the key.
-fn find_line(text: &[u8], key: &[u8]) -> Found
+fn find_line<'a>(text: &'a [u8], key: &[u8]) -> Option<Cut<'a>>
     requires { 0 < length key.now }
-    ensures { FoundLine key.now text.now result.found result.at result.end result.next }
+    ensures { LineFound key.now text.now result }
 {
     let mut at = 0;
     while at < text.len() {
         let end = icgem_words::line_end(text, at);
-        let next = past_end(end, text.len());
-        if is_keyed(&text[at..end], key) {
-            return Found {
-                found: true,
-                at: at,
-                end: end,
-                next: next,
-            };
+        let line = &text[at..end];
+        let next = (end + 1).min(text.len());
+        if is_keyed(line, key) {
+            return Some(Cut {
+                before: &text[..at],
+                line,
+                after: &text[next..],
+            });
         }
         at = next;
     }
-    Found {
-        found: false,
-        at: at,
-        end: at,
-        next: at,
+    None
+}
+
+// The same of a line that stands once at most.
+fn single_line<'a>(text: &'a [u8], key: &[u8]) -> Result<Option<Cut<'a>>, Malformed>
+    requires { 0 < length key.now }
+    ensures { LineSingle key.now text.now result }
+{
+    let Some(cut) = find_line(text, key) else {
+        return Ok(None);
+    };
+    match find_line(cut.after, key) {
+        None => Ok(Some(cut)),
+        Some(_) => Err(Malformed),
     }
 }
 
-// The second word of the line from a place up to its end.
-fn second_word(text: &[u8], at: usize, end: usize) -> Span
-    requires ordered { at ≤ end }
-    requires within { end ≤ length text.now }
-    ensures { SecondWord text.now at end result.from result.to }
+fn second_word(line: &[u8]) -> Option<&[u8]>
+    ensures word { option_copied result ≡ slice_get (words line.now) 1 }
+    ensures short { IfSome result (λ word. length word.now ≤ length line.now) }
 {
-    let line = &text[at..end];
     let first = icgem_words::next_word(line, 0);
     let second = icgem_words::next_word(line, first.to);
-    Span {
-        from: at + second.from,
-        to: at + second.to,
-    }
-}
-
-fn entry_of(entries: &[u8], key: &[u8]) -> Entry
-    requires { 0 < length key.now }
-    ensures { EntryRead key.now entries.now result.found result.kept result.from result.to }
-{
-    let line = find_line(entries, key);
-    let next = line.next;
-    let again = find_line(&entries[next..], key);
-    let value = second_word(entries, line.at, line.end);
-    Entry {
-        found: line.found,
-        kept: !line.found | (!again.found & (value.from < value.to)),
-        from: value.from,
-        to: value.to,
-    }
-}
-
-// The gravity constant's entry: one of its two names is used.
-fn constant_entry(entries: &[u8]) -> Entry
-    ensures { ConstantRead entries.now result.found result.kept result.from result.to }
-{
-    let long = entry_of(entries, b"earth_gravity_constant");
-    let plain = entry_of(entries, b"gravity_constant");
-    let kept = (long.kept & plain.kept) & !(long.found & plain.found);
-    if long.found {
-        Entry {
-            found: true,
-            kept: kept,
-            from: long.from,
-            to: long.to,
-        }
+    if second.is_empty() {
+        None
     } else {
-        Entry {
-            found: plain.found,
-            kept: kept,
-            from: plain.from,
-            to: plain.to,
-        }
+        Some(second.of(line))
+    }
+}
+
+// The value of an entry that may stand once, with a value.
+fn entry_of<'a>(entries: &'a [u8], key: &[u8]) -> Result<Option<&'a [u8]>, Malformed>
+    requires { 0 < length key.now }
+    ensures { EntryRead key.now entries.now result }
+{
+    match single_line(entries, key)? {
+        None => Ok(None),
+        Some(cut) => Ok(Some(second_word(cut.line).ok_or(Malformed)?)),
+    }
+}
+
+// The value of an entry that stands once.
+fn required<'a>(entries: &'a [u8], key: &[u8]) -> Result<&'a [u8], Malformed>
+    requires { 0 < length key.now }
+    ensures { RequiredRead key.now entries.now result }
+{
+    entry_of(entries, key)?.ok_or(Malformed)
+}
+
+// The gravity constant's value: one of its two names is used.
+fn constant_word(entries: &[u8]) -> Result<&[u8], Malformed>
+    ensures { ConstantRead entries.now result }
+{
+    let long = entry_of(entries, b"earth_gravity_constant")?;
+    let plain = entry_of(entries, b"gravity_constant")?;
+    match (long, plain) {
+        (Some(word), None) => Ok(word),
+        (None, Some(word)) => Ok(word),
+        _ => Err(Malformed),
     }
 }
 
 // A constant: -0 is taken too.
-fn constant_of(word: &[u8], places: usize) -> Number
+fn constant_of(word: &[u8], places: usize) -> Result<u64, Malformed>
     requires places_most { places ≤ 15 }
     requires word_most { length word.now ≤ 131072 }
-    ensures { NumberRead places word.now result.ok result.value }
+    ensures { ConstantTaken places word.now result }
 {
     let n = icgem_decimal::in_units(word, places);
-    Number {
-        ok: n.ok & (!(n.negative & (0 < n.size)) & !n.over),
-        value: n.size,
+    if n.ok & (!(n.negative & (0 < n.size)) & !n.over) {
+        Ok(n.size)
+    } else {
+        Err(Malformed)
     }
 }
 
-// The constant that an entry's word writes.
-fn constant_at(entries: &[u8], at: Entry, places: usize) -> Number
-    requires places_bound { (places ≤ 15) × (length entries.now ≤ 131072) }
-    requires from_le_to { (at.from ≤ at.to) × (at.to ≤ length entries.now) }
-    ensures { NumberRead places (part at.from at.to entries.now) result.ok result.value }
+fn is_whole(word: &[u8]) -> bool
+    ensures { result ≡ is_whole word.now }
 {
-    let from = at.from;
-    let to = at.to;
-    constant_of(&entries[from..to], places)
+    icgem_decimal::whole_number(word).ok
 }
 
-// Whether an entry's word is a whole number.
-fn is_whole_at(entries: &[u8], at: Entry) -> bool
-    requires { (at.from ≤ at.to) × (at.to ≤ length entries.now) }
-    ensures { result ≡ is_whole (part at.from at.to entries.now) }
-{
-    let from = at.from;
-    let to = at.to;
-    let n = icgem_decimal::whole_number(&entries[from..to]);
-    n.ok
-}
-
-fn numbers_of(entries: &[u8]) -> Numbers
+fn numbers_of(entries: &[u8]) -> Result<Numbers, Malformed>
     requires { length entries.now ≤ 131072 }
-    ensures { NumbersRead entries.now result.kept result.there result.taken result.from result.to result.constant result.radius }
+    ensures { NumbersRead entries.now result }
 {
-    let c = constant_entry(entries);
-    let r = entry_of(entries, b"radius");
-    let d = entry_of(entries, b"max_degree");
-    let constant = constant_at(entries, c, 0);
-    let radius = constant_at(entries, r, 3);
-    let whole = is_whole_at(entries, d);
-    Numbers {
-        kept: c.kept & (r.kept & d.kept),
-        there: c.found & (r.found & d.found),
-        taken: whole & (constant.ok & radius.ok),
-        from: d.from,
-        to: d.to,
-        constant: constant.value,
-        radius: radius.value,
+    let constant = constant_word(entries)?;
+    let radius = required(entries, b"radius")?;
+    let degree = required(entries, b"max_degree")?;
+    if !is_whole(degree) {
+        return Err(Malformed);
     }
+    let constant = constant_of(constant, 0)?;
+    let radius = constant_of(radius, 3)?;
+    Ok(Numbers {
+        degree,
+        constant,
+        radius,
+    })
 }
 
-fn system_of(word: &[u8]) -> System
+#[tactic(auto, unfolding(icgem_file::specs::File::system_said, icgem_names::specs::Names::system_name, text::specs::Text::ascii))]
+fn system_of(word: &[u8]) -> Option<PermanentSystem>
     ensures { tells_system result ≡ system_said word.now }
 {
+    // A match on byte strings leaves a goal for each byte.
     if icgem_words::same_word(word, b"tide_free") {
-        System::Said(PermanentSystem::TideFree)
+        Some(PermanentSystem::TideFree)
     } else if icgem_words::same_word(word, b"zero_tide") {
-        System::Said(PermanentSystem::Zero)
+        Some(PermanentSystem::Zero)
     } else if icgem_words::same_word(word, b"mean_tide") {
-        System::Said(PermanentSystem::Mean)
+        Some(PermanentSystem::Mean)
     } else {
-        System::Unknown
+        None
     }
 }
 
-// The system that an entry's word names.
-fn system_at(entries: &[u8], at: Entry) -> System
-    requires { (at.from ≤ at.to) × (at.to ≤ length entries.now) }
-    ensures { tells_system result ≡ system_said (part at.from at.to entries.now) }
+// Whether an entry's value is a word, where the entry is there.
+fn may_be(value: Option<&[u8]>, word: &[u8]) -> bool
+    ensures { MatchOption value.entry (result ≡ true) (λ value. result ≡ same_word value.now word.now) }
 {
-    let from = at.from;
-    let to = at.to;
-    system_of(&entries[from..to])
+    value.is_none_or(|value| icgem_words::same_word(value, word))
 }
 
-fn kind_of(entries: &[u8], key: &[u8], word: &[u8]) -> Kind
-    requires { 0 < length key.now }
-    ensures { KindRead key.now word.now entries.now result.found result.kept result.same }
+// The system that is named, where the entries whose values are words are as they should be.
+fn system_in(entries: &[u8]) -> Result<Option<PermanentSystem>, Malformed>
+    ensures { WordsRead entries.now result }
 {
-    let at = entry_of(entries, key);
-    let from = at.from;
-    let to = at.to;
-    Kind {
-        found: at.found,
-        kept: at.kept,
-        same: icgem_words::same_word(&entries[from..to], word),
-    }
-}
-
-fn kinds_of(entries: &[u8]) -> Kinds
-    ensures { KindsRead entries.now result.kept result.there result.taken result.system }
-{
-    let product = kind_of(entries, b"product_type", b"gravity_field");
-    let model = entry_of(entries, b"modelname");
-    let errors = entry_of(entries, b"errors");
-    let norm = kind_of(entries, b"norm", b"fully_normalized");
-    let tide = entry_of(entries, b"tide_system");
-    Kinds {
-        kept: product.kept & (model.kept & (errors.kept & (norm.kept & tide.kept))),
-        there: product.found,
-        taken: product.same & (!norm.found | norm.same),
-        system: system_at(entries, tide),
-    }
-}
-
-fn entries_of(entries: &[u8]) -> Entries
-    requires { length entries.now ≤ 131072 }
-    ensures { EntriesRead entries.now result.ok result.from result.to result.constant result.radius result.system }
-{
-    let kinds = kinds_of(entries);
-    let numbers = numbers_of(entries);
-    let system = kinds.system;
-    Entries {
-        ok: (kinds.kept & numbers.kept)
-            & ((kinds.there & numbers.there) & (kinds.taken & numbers.taken)),
-        from: numbers.from,
-        to: numbers.to,
-        constant: numbers.constant,
-        radius: numbers.radius,
-        system: system,
+    let product = required(entries, b"product_type")?;
+    entry_of(entries, b"modelname")?;
+    entry_of(entries, b"errors")?;
+    let norm = entry_of(entries, b"norm")?;
+    let system = entry_of(entries, b"tide_system")?;
+    if icgem_words::same_word(product, b"gravity_field") && may_be(norm, b"fully_normalized") {
+        Ok(system.and_then(system_of))
+    } else {
+        Err(Malformed)
     }
 }
 
 // The entries begin after begin_of_head, or with the head where it has no such line.
-fn entries_start(head: &[u8]) -> Start
-    ensures { EntriesAt head.now result.once result.from }
+fn entries_in(head: &[u8]) -> Result<&[u8], Malformed>
+    ensures { EntriesFound head.now result }
 {
-    let begin = find_line(head, b"begin_of_head");
-    let next = begin.next;
-    let again = find_line(&head[next..], b"begin_of_head");
-    if begin.found {
-        Start {
-            once: !again.found,
-            from: next,
-        }
-    } else {
-        Start {
-            once: !again.found,
-            from: 0,
-        }
+    match single_line(head, b"begin_of_head")? {
+        None => Ok(head),
+        Some(begin) => Ok(begin.after),
     }
 }
 
 // Given: the text of a file, of 128 KiB at most.
-// Answered: whether its header is as it should be, where its data begin, and what its entries say.
-pub fn header_of(text: &[u8]) -> Header
+// Answered: where its data begin, and what its entries say, where its header is as it should be.
+pub fn header_of(text: &[u8]) -> Result<Header, Malformed>
     requires { length text.now ≤ 131072 }
-    ensures { HeaderRead text.now result.ok result.«data» result.from result.to result.constant result.radius result.system }
+    ensures { HeaderRead text.now result }
 {
-    let line = find_line(text, b"end_of_head");
-    let end = line.at;
-    let start = entries_start(&text[..end]);
-    let from = start.from;
-    let read = entries_of(&text[from..end]);
-    let system = read.system;
-    Header {
-        ok: (line.found & start.once) & read.ok,
-        data: line.next,
-        from: from + read.from,
-        to: from + read.to,
-        constant: read.constant,
-        radius: read.radius,
-        system: system,
-    }
+    let end = find_line(text, b"end_of_head").ok_or(Malformed)?;
+    let entries = entries_in(end.before)?;
+    let system = system_in(entries)?;
+    let Numbers {
+        degree,
+        constant,
+        radius,
+    } = numbers_of(entries)?;
+    Ok(Header {
+        data: end.after,
+        degree,
+        constant,
+        radius,
+        system,
+    })
 }

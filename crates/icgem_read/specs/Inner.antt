@@ -1,6 +1,8 @@
 -- Inner contracts, no words of 02: what the functions that read a file say to one another.
-use Rattle.std.specs.Prelude.{true, cond, ◌&&◌, List, ◌≡◌, ℕ, ℤ, length}
+use Rattle.std.specs.Prelude.{true, cond, ◌&&◌, List, ◌≡◌, ℕ, ℤ, Result, MatchResult}
 use Rattle.limits.specs.Limits.{is_degree}
+use Rattle.refusals.specs.declared.Refusal.{Refusal}
+use Rattle.refusals.specs.Numbers.{refusal_number}
 use Rattle.refusals.specs.Outcome.{first_of}
 use Rattle.refusals.specs.Told.Told.{accepted}
 use Rattle.icgem_decimal.specs.Decimal.{value_of}
@@ -19,20 +21,23 @@ pub record DegreeRead (word : List ℕ) (n : ℕ) : Type 0 where
 unfoldable pub data_refusal : ℕ → List Line → ℕ
 data_refusal n lines = first_of (cond (data_formed n lines) 0 17) (first_of (cond (repeated lines) 18 0) (cond (is_degree n && all_in_range lines) 0 19))
 
--- the lists that a file's lines have filled, where nothing refuses them
-pub record Filled (number : ℕ) (lines : List Line) (c s c' s' : List ℤ) : Type 0 where
-  pub c_is : number ≡ 0 → c' ≡ filled c_in lines c
-  pub s_is : number ≡ 0 → s' ≡ filled s_in lines s
-  pub c-room : length c' ≡ length c
-  pub s-room : length s' ≡ length s
+-- the lists that the lines have filled, where nothing refuses them
+pub record Filled (lines : List Line) (c s c' s' : List ℤ) : Type 0 where
+  pub c_is : c' ≡ filled c_in lines c
+  pub s_is : s' ≡ filled s_in lines s
 
-pub record DataRead (n : ℕ) (lines : List Line) (c s : List ℤ) (number : ℕ) (c' s' : List ℤ) : Type 0 where
-  pub number_is : number ≡ data_refusal n lines
-  pub lists : Filled number lines c s c' s'
+abbrev pub DataRead : ℕ → List Line → List ℤ → List ℤ → Result Unit Refusal → List ℤ → List ℤ → Type 0
+DataRead n lines c s result c' s' =
+    MatchResult result
+    (λ done. (data_refusal n lines ≡ 0) × Filled lines c s c' s')
+    (λ why. data_refusal n lines ≡ refusal_number why)
 
--- a file gone through: its own refusal, and what it says where there is none
-pub record PassedFile (text : List ℕ) (c s : List ℤ) (number : ℕ) (head : FileHead) (c' s' : List ℤ) : Type 0 where
-  pub number_is : number ≡ file_refusal text
-  pub head_is : number ≡ 0 → head_said text ≡ accepted head
-  pub degree_is : number ≡ 0 → head.degree ≡ degree_of (worded text)
-  pub lists : Filled number (data_of (worded text)) c s c' s'
+-- a file gone through: what it says where nothing refuses it
+pub record Passed (text : List ℕ) (c s : List ℤ) (head : FileHead) (c' s' : List ℤ) : Type 0 where
+  pub none : file_refusal text ≡ 0
+  pub head_is : head_said text ≡ accepted head
+  pub degree_is : head.degree ≡ degree_of (worded text)
+  pub lists : Filled (data_of (worded text)) c s c' s'
+
+abbrev pub FilePassed : List ℕ → List ℤ → List ℤ → Result FileHead Refusal → List ℤ → List ℤ → Type 0
+FilePassed text c s result c' s' = MatchResult result (λ head. Passed text c s head c' s') (λ why. file_refusal text ≡ refusal_number why)

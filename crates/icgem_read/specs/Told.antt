@@ -1,17 +1,8 @@
 -- What the calls that read a file answer.
 use Rattle.std.specs.Prelude.{◌≡◌, List, ℤ}
-use Rattle.refusals.specs.Numbers.{refusal_number}
 use Rattle.refusals.specs.Told.{Told}
-use Rattle.refusals.specs.Told.Told.{accepted, refused}
 use Rattle.icgem_file.specs.declared.FileHead.{FileHead}
 use Rattle.icgem_file.specs.File.{FileRead}
-use Rattle.icgem_read.specs.declared.FileTold.{FileTold}
-use Rattle.icgem_read.specs.declared.FileTold.TheVariants.{Head, Refused}
-
--- the number and the value of each answer
-abbrev pub tells : FileTold → Told FileHead
-tells (Head head) = accepted head
-tells (Refused r) = refused (refusal_number r)
 
 -- a call gives what a file read is: its answer, and both lists as it returns
 pub record Reads (read : FileRead) (told : Told FileHead) (c s : List ℤ) : Type 0 where

@@ -118,5 +118,20 @@ module _ {line : List ℕ} {at from to : ℕ} (w : NextWord line at from to) whe
   pub counted_some : from < to → length (words (drop at line)) ≡ length (words (drop to line)) + 1
   counted_some h = rw (w.some h, add-one)
 
-  pub counted_none : to ≤ from → length (words (drop at line)) ≡ length (words (drop to line))
-  counted_none h = rw (w.none h, words_past line to (omega (arith, w.ended h)))
+-- how many words are passed before a word, which is the next from a place on
+pub record Counted (line : List ℕ) (at from to count : ℕ) : Type 0 where
+  pub place : ℕ
+  pub next : NextWord line place from to
+  pub few : count ≤ from
+  pub all : count + length (words (drop place line)) ≡ length (words (drop at line))
+
+module _ {line : List ℕ} {at from to : ℕ} where
+  pub counted_first : NextWord line at from to → Counted line at from to 0
+  counted_first w = record { place = at; next = w; few = omega arith; all = omega arith }
+
+  module _ {count : ℕ} (c : Counted line at from to count) where
+    pub counted_more : {from' to' : ℕ} → from < to → NextWord line to from' to' → Counted line at from' to' (count + 1)
+    counted_more h w = record { place = to; next = w; few = omega (arith, c.few, w.low); all = omega (arith, c.all, counted_some c.next h) }
+
+    pub counted_all : to ≤ from → count ≡ length (words (drop at line))
+    counted_all h = omega (arith, c.all, ap length (c.next.none h))

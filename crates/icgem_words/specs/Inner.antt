@@ -1,7 +1,5 @@
 -- Inner contracts, no words of 02: runs of bytes, and the next word.
 use Rattle.std.specs.Prelude.{◌≡◌, Bool, true, false, cond, not, ◌&&◌, List, [], ◌∷◌, ℕ, ◌-◌, ◌≤◌, ◌<◌, length, get_or, take, drop}
-use Rattle.icgem_words.specs.declared.Kind.{Kind}
-use Rattle.icgem_words.specs.declared.Kind.TheVariants.{Line, Word, Blanks}
 use Rattle.icgem_words.specs.Words.{is_line_end, is_blank, words}
 
 -- the bytes from a place up to another: the list of `&text[from..to]`
@@ -30,16 +28,18 @@ pub record Run (test : ℕ → Bool) (text : List ℕ) (from to : ℕ) : Type 0 
   pub passed : all_of test (part from to text) ≡ true
   pub stops : to < length text → test (get_or text to 0) ≡ false
 
+-- the same of a test that answers `true` at the byte that ends the run, said by its answers
+pub record RunTo (ends : ℕ → Bool → Type 0) (text : List ℕ) (from to : ℕ) : Type 0 where
+  pub low : from ≤ to
+  pub within : to ≤ length text
+  pub passed : (k : ℕ) → from ≤ k → k < to → ends (get_or text k 0) false
+  pub stops : to < length text → ends (get_or text to 0) true
+
 abbrev pub in_line : ℕ → Bool
 in_line b = not (is_line_end b)
 
 abbrev pub in_word : ℕ → Bool
 in_word b = not (is_blank b)
-
-abbrev pub is_of : Kind → ℕ → Bool
-is_of Line b = in_line b
-is_of Word b = in_word b
-is_of Blanks b = is_blank b
 
 -- the first word at or after a place; where there is none, both ends are the line's
 pub record NextWord (line : List ℕ) (at from to : ℕ) : Type 0 where

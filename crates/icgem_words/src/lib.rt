@@ -2,54 +2,32 @@
 
 #![tactic(auto)]
 
-ghost use Rattle.std.specs.Prelude.{◌≡◌, ◌≤◌, length, drop};
+ghost use Rattle.std.specs.Prelude.{◌≡◌, ◌+◌, ◌^◌, ◌<◌, ◌≤◌, length, drop, nat_le};
 ghost use Rattle.icgem_words.specs.Words.{is_line_end, is_blank, words, same_word};
-ghost use Rattle.icgem_words.specs.Inner.{in_line, is_of, Run, NextWord};
+ghost use Rattle.icgem_words.specs.Inner.{in_line, part, RunTo, Run, NextWord};
 
 pub fn is_line_end(b: u8) -> bool
     ensures { result ≡ is_line_end b }
 {
-    (b == 10) | (b == 13)
+    matches!(b, b'\n' | b'\r')
 }
 
 pub fn is_blank(b: u8) -> bool
     ensures { result ≡ is_blank b }
 {
-    (b == 32) | (b == 9)
+    matches!(b, b' ' | b'\t')
 }
 
-// Whose bytes a run is of.
-#[derive(Clone, Copy)]
-enum Kind {
-    Line,
-    Word,
-    Blanks,
-}
-
-fn is_of(kind: Kind, b: u8) -> bool
-    ensures { result ≡ is_of kind b }
+// The first byte at or after a place that ends a run, or the text's end.
+pub fn run_end<F: Fn(u8) -> bool>(text: &[u8], from: usize, ends: F) -> usize
+    requires from_in_bounds { from ≤ length text.now }
+    requires ends_callable { F.IsAlwaysCallable ends }
+    ensures { RunTo (F.post ends) text.now from result }
 {
-    match kind {
-        Kind::Line => !is_line_end(b),
-        Kind::Word => !is_blank(b),
-        Kind::Blanks => is_blank(b),
+    match text[from..].iter().position(|b| ends(*b)) {
+        Some(n) => from + n,
+        None => text.len(),
     }
-}
-
-// The first byte at or after a place that is not of a kind, or the text's end.
-fn run_end(text: &[u8], from: usize, kind: Kind) -> usize
-    requires { from ≤ length text.now }
-    ensures { Run (is_of kind) text.now from result }
-{
-    let mut at = from;
-    while at < text.len() {
-        if is_of(kind, text[at]) {
-            at += 1;
-        } else {
-            return at;
-        }
-    }
-    at
 }
 
 // The first line end at or after a place, or the text's end.
@@ -57,13 +35,42 @@ pub fn line_end(text: &[u8], from: usize) -> usize
     requires { from ≤ length text.now }
     ensures { Run in_line text.now from result }
 {
-    run_end(text, from, Kind::Line)
+    run_end(text, from, is_line_end)
 }
 
-#[derive(Clone, Copy)]
+// A part of a text.
+#[derive(Clone, Copy, Debug, PartialEq, Eq)]
 pub struct Span {
     pub from: usize,
     pub to: usize,
+    ghost ordered: { from ≤ to },
+}
+
+impl Span {
+    pub fn of(self, text: &[u8]) -> &[u8]
+        requires { self.to ≤ length text.now }
+        ensures { result.now ≡ part self.from self.to text.now }
+    {
+        &text[self.from..self.to]
+    }
+
+    pub fn is_empty(self) -> bool
+        ensures { result ≡ nat_le self.to self.from }
+    {
+        self.to <= self.from
+    }
+
+    // The same part of a text with so many bytes more in front.
+    pub fn moved(self, by: usize) -> Self
+        requires { by + self.to < 2 ^ 64 }
+        ensures from_moved { result.from ≡ by + self.from }
+        ensures to_moved { result.to ≡ by + self.to }
+    {
+        Self {
+            from: by + self.from,
+            to: by + self.to,
+        }
+    }
 }
 
 // The first word at or after a place; empty, at the line's end, where there is none.
@@ -71,9 +78,9 @@ pub fn next_word(line: &[u8], at: usize) -> Span
     requires { at ≤ length line.now }
     ensures { NextWord line.now at result.from result.to }
 {
-    let from = run_end(line, at, Kind::Blanks);
-    let to = run_end(line, from, Kind::Word);
-    Span { from: from, to: to }
+    let from = run_end(line, at, |b| !is_blank(b));
+    let to = run_end(line, from, is_blank);
+    Span { from, to }
 }
 
 // How many words stand from a place on.
@@ -82,13 +89,10 @@ pub fn count_words(line: &[u8], at: usize) -> usize
     ensures { result ≡ length (words (drop at line.now)) }
 {
     let mut count = 0;
-    let mut place = at;
-    while place < line.len() {
-        let word = next_word(line, place);
-        if word.from < word.to {
-            count += 1;
-        }
-        place = word.to;
+    let mut word = next_word(line, at);
+    while !word.is_empty() {
+        count += 1;
+        word = next_word(line, word.to);
     }
     count
 }
@@ -96,15 +100,5 @@ pub fn count_words(line: &[u8], at: usize) -> usize
 pub fn same_word(word: &[u8], other: &[u8]) -> bool
     ensures { result ≡ same_word word.now other.now }
 {
-    if word.len() != other.len() {
-        return false;
-    }
-    let mut i = 0;
-    while i < word.len() {
-        if word[i] != other[i] {
-            return false;
-        }
-        i += 1;
-    }
-    true
+    word == other
 }

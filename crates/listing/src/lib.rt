@@ -40,12 +40,16 @@ fn put_models(page: &mut Page, phases: Phases)
     let lines = profiles::all_lines();
     let hour = hour::set_to(phases);
     page.put_word("model C20 C21 S21 C22 S22\n");
-    for (name, love) in [
-        ("elastic", LoveModel::Elastic),
-        ("anelastic", LoveModel::Anelastic),
-    ] {
-        put_model(page, name, step_two::corrections_of(hour, love, lines));
-    }
+    put_model(
+        page,
+        "elastic",
+        step_two::corrections_of(hour, LoveModel::Elastic, lines),
+    );
+    put_model(
+        page,
+        "anelastic",
+        step_two::corrections_of(hour, LoveModel::Anelastic, lines),
+    );
 }
 
 // The six phases of the first 24 bytes.

@@ -1,15 +1,15 @@
--- Each turn passes one word more, or the blanks at the line's end.
-use mathlib.Core.Path.{ap}
-use native.Mathlib.Omega.{arith}
-use lib.ListN.{length}
-use Rattle.icgem_words.proofs.Read.{words_past, counted_none}
-use Rattle.std.proofs.Common.{rules}
+-- Each turn passes one word more.
+use Rattle.std.proofs.Common.{sym, ◌∙◌}
+use borrow.Author.Tests.{leb-true, leb-false}
+use Rattle.icgem_words.proofs.Read.{counted_first, counted_more, counted_all}
 use Rattle.icgem_words.proofs.count_words.Goals as goal
 
-pub loop-place-preserved : goal.loop-place-preserved
-loop-place-preserved c = let w = c.next_word-word.ensures in (search rules, (omega arith, omega (arith, counted_none w (omega arith))))
+pub loop-word-init : goal.loop-word-init
+loop-word-init c = counted_first c.next_word-word.ensures
+
+pub loop-word-preserved : goal.loop-word-preserved
+loop-word-preserved c =
+    counted_more c.loop-word.invariant (leb-false _ _ (sym c.is_empty.ensures ∙ c.loop-word-test.true)) c.next_word-word-in-loop-word.ensures
 
 pub returns : goal.returns
-returns c =
-    let l = c.args.line.now in
-    omega (arith, ap length (words_past l c.loop-place.place c.loop-place-test.false))
+returns c = counted_all c.loop-word.invariant (leb-true _ _ (sym c.is_empty.ensures ∙ c.loop-word-test.false))

@@ -1,12 +1,10 @@
--- Each turn passes one word more, or the blanks at the line's end.
-use mathlib.Core.Path.{◌≡◌}
-use Prim.Native.Nat.{◌+◌, ◌-◌, ◌≤◌}
-use lib.ListN.{length, drop}
-use Rattle.icgem_words.specs.Words.{words}
+-- Each turn passes one word more.
+use Rattle.std.proofs.Common.{◌-◌, length}
+use Rattle.icgem_words.proofs.Read.{Counted}
 use Rattle.icgem_words.proofs.count_words.Given as goal
 
-abbrev pub invariant-loop-place : goal.invariant-loop-place
-invariant-loop-place l = (l.place ≤ length l.line) × ((l.count ≤ l.place) × (l.count + length (words (drop l.place l.line)) ≡ length (words (drop l.at l.line))))
+abbrev pub invariant-loop-word : goal.invariant-loop-word
+invariant-loop-word l = Counted l.line l.at l.word.from l.word.to l.count
 
-abbrev pub decreases-loop-place : goal.decreases-loop-place
-decreases-loop-place l = length l.line - l.place
+abbrev pub decreases-loop-word : goal.decreases-loop-word
+decreases-loop-word l = length l.line - l.word.from
