@@ -1,27 +1,17 @@
--- That the sections of a sheet lie within it where it ends as its counts say, and where each count is read.
+-- Where each count is read, and that a line lies within the sheet.
 use mathlib.Core.List.{List}
 use mathlib.Core.Path.{◌≡◌, refl, ap, ◌∙◌}
 use Prim.Native.Nat.{ℕ, ◌+◌, ◌*◌, ◌≤◌, ◌<◌}
 use native.Mathlib.Nat.{mul-le-mul_left}
 use native.Mathlib.Omega.{arith}
 use lib.ListN.{length}
-use Rattle.sheet.specs.Sheet.{line_count, line_start, tides_start, tide_count, place_count, row_start, place_start, sheet_end}
+use Rattle.sheet.specs.Sheet.{line_count, line_start, tides_start, tide_count, place_count, sheet_end}
 use Rattle.words.specs.Words.{half_at}
 use Rattle.sheet.specs.Inner.{Laid}
 
--- item k of t items of n numbers each
-item_in : (n k t : ℕ) → k < t → n * k + n ≤ n * t
-item_in n k t h = omega (arith, mul-le-mul_left n h)
-
-module _ (s : List ℕ) (whole : length s ≡ sheet_end s) where
-  pub line_in : (f : ℕ) → f < line_count s → line_start f + 6 ≤ length s
-  line_in f h = omega (arith, item_in 6 f (line_count s) h)
-
-  pub row_in : (k : ℕ) → k < tide_count s → row_start s k + 4 * line_count s ≤ length s
-  row_in k h = omega (arith, item_in (line_count s) k (tide_count s) h)
-
-  pub place_in : (j : ℕ) → j < place_count s → place_start s j + (2 + 16 * tide_count s) ≤ length s
-  place_in j h = omega (arith, item_in (2 + 16 * tide_count s) j (place_count s) h)
+-- a line lies within a sheet that ends as its counts say
+pub line_in : (s : List ℕ) → length s ≡ sheet_end s → (f : ℕ) → f < line_count s → line_start f + 6 ≤ length s
+line_in s whole f h = omega (arith, mul-le-mul_left 6 h)
 
 -- each count read where the section before it ends
 module _ (s : List ℕ) (l t p : ℕ) (e : l ≡ half_at s 0) (f : t ≡ half_at s (2 + 6 * l)) (g : p ≡ half_at s (2 + 6 * l + 2 + 4 * (l * t))) where

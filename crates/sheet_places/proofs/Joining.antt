@@ -13,9 +13,6 @@ use Rattle.sheet.proofs.Flat.{all_rows}
 use Rattle.sheet_places.specs.Inner.{valid_at, Joined}
 
 module _ (s : List ℕ) (at : ℕ) where
-  pub joined_none : (any : ℕ) → Joined s at 0 any
-  joined_none any = record { each = λ b i h. absurd (omega arith) }
-
   raised_valid : (n v : ℕ) → v ≡ word_at s (at + 4 * n) → v < 2 ^ 32 → (v + 2 ^ 24) % 2 ^ 32 < 2 ^ 25 → valid_at s at n ≡ true
   unfolding valid_at
   raised_valid n v e h l = rw (← e) (le-leb (nat_abs (twos_complement (2 ^ 31) v)) (2 ^ 24) (raised_small (2 ^ 31) v h (2 ^ 24) (omega arith) l))

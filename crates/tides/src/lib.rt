@@ -31,18 +31,18 @@ pub struct Factor {
 }
 
 // An accepted sheet with the waves of its lines, raised, and their totals.
-// Speed: two lists in place of one of pairs, since a processor takes two cosines, or two sines, at a time.
-#[derive(Drop)]
+// Speed: two lists in place of one of pairs, since a processor takes two cosines, or two sines, at a time; lent, since a copy of both costs as much as some lines.
+#[derive(Clone, Copy)]
 struct Waves<'a> {
     accepted: Accepted<'a>,
-    cosines: [u32; 128],
-    sines: [u32; 128],
+    cosines: &'a [u32; 128],
+    sines: &'a [u32; 128],
     cosine_total: u64,
     sine_total: u64,
-    ghost cosines_bounded: { Bounded (line_count accepted.sheet.bytes.now) cosines },
-    ghost sines_bounded: { Bounded (line_count accepted.sheet.bytes.now) sines },
-    ghost cosines_added: { cosine_total ≡ total cosines (line_count accepted.sheet.bytes.now) },
-    ghost sines_added: { sine_total ≡ total sines (line_count accepted.sheet.bytes.now) },
+    ghost cosines_bounded: { Bounded (line_count accepted.sheet.bytes.now) cosines.now },
+    ghost sines_bounded: { Bounded (line_count accepted.sheet.bytes.now) sines.now },
+    ghost cosines_added: { cosine_total ≡ total cosines.now (line_count accepted.sheet.bytes.now) },
+    ghost sines_added: { sine_total ≡ total sines.now (line_count accepted.sheet.bytes.now) },
 }
 
 // An accepted sheet with the factors of its tides.
@@ -75,25 +75,19 @@ fn total_of(lines: usize, waves: &[u32; 128]) -> u64
 }
 
 // Each line's cosine and sine, raised by 2^30.
-fn waves_of<'a>(accepted: &Accepted<'a>, phases: Phases) -> Waves<'a>
-    ensures { (result.accepted.sheet.bytes.now ≡ accepted.now.sheet.bytes.now) × Waved accepted.now.sheet.bytes.now phases (line_count accepted.now.sheet.bytes.now) result.cosines result.sines }
+fn fill_waves(
+    accepted: &Accepted<'_>,
+    phases: Phases,
+    cosines: &mut [u32; 128],
+    sines: &mut [u32; 128],
+)
+    requires { (length cosines.old ≡ 128) × (length sines.old ≡ 128) }
+    ensures { Waved accepted.now.sheet.bytes.now phases (line_count accepted.now.sheet.bytes.now) cosines.new sines.new }
 {
-    let lines = accepted.sheet.layout.lines;
-    let mut cosines = [0u32; 128];
-    let mut sines = [0u32; 128];
-    for f in 0..lines {
+    for f in 0..accepted.sheet.layout.lines {
         let wave = wave::wave_of(arguments::phase_of(accepted.sheet.multipliers_at(f), phases));
         cosines[f] = raised(wave.cosine, WAVE);
         sines[f] = raised(wave.sine, WAVE);
-    }
-    let cosine_total = total_of(lines, &cosines);
-    let sine_total = total_of(lines, &sines);
-    Waves {
-        accepted: *accepted,
-        cosines,
-        sines,
-        cosine_total,
-        sine_total,
     }
 }
 
@@ -118,7 +112,7 @@ fn plus_line(sum: u64, a: u32, w: u32) -> u64
 // Both sums of tide k in one pass.
 fn row_sums(waves: &Waves<'_>, k: usize) -> RowSums
     requires { k < tide_count waves.now.accepted.sheet.bytes.now }
-    ensures { Summed waves.now.accepted.sheet.bytes.now k waves.now.cosines waves.now.sines result }
+    ensures { Summed waves.now.accepted.sheet.bytes.now k waves.now.cosines.now waves.now.sines.now result }
 {
     let lines = waves.accepted.sheet.layout.lines;
     let mut x = 0;
@@ -137,10 +131,10 @@ fn row_sums(waves: &Waves<'_>, k: usize) -> RowSums
 }
 
 // The factors of all tides, from the raised waves of their lines.
-fn factors_of(waves: &Waves<'_>) -> [Factor; 32]
-    ensures { Rowed waves.now.accepted.sheet.bytes.now waves.now.cosines waves.now.sines result }
+fn fill_factors(waves: &Waves<'_>, factors: &mut [Factor; 32])
+    requires { length factors.old ≡ 32 }
+    ensures { Rowed waves.now.accepted.sheet.bytes.now waves.now.cosines.now waves.now.sines.now factors.new }
 {
-    let mut factors = [Factor { cosine: 0, sine: 0 }; 32];
     for k in 0..waves.accepted.sheet.layout.tides {
         let sums = row_sums(waves, k);
         factors[k] = Factor {
@@ -148,7 +142,6 @@ fn factors_of(waves: &Waves<'_>) -> [Factor; 32]
             sine: whole::nearest_of(sums.sines, 1000000),
         };
     }
-    factors
 }
 
 impl<'a> Tides<'a> {
@@ -156,10 +149,24 @@ impl<'a> Tides<'a> {
     pub fn of(accepted: &Accepted<'a>, phases: Phases) -> Tides<'a>
         ensures { (result.accepted.sheet.bytes.now ≡ accepted.now.sheet.bytes.now) × Factored accepted.now.sheet.bytes.now phases result.factors }
     {
-        let waves = waves_of(accepted, phases);
+        let lines = accepted.sheet.layout.lines;
+        let mut cosines = [0u32; 128];
+        let mut sines = [0u32; 128];
+        fill_waves(accepted, phases, &mut cosines, &mut sines);
+        let cosine_total = total_of(lines, &cosines);
+        let sine_total = total_of(lines, &sines);
+        let waves = Waves {
+            accepted: *accepted,
+            cosines: &cosines,
+            sines: &sines,
+            cosine_total,
+            sine_total,
+        };
+        let mut factors = [Factor { cosine: 0, sine: 0 }; 32];
+        fill_factors(&waves, &mut factors);
         Tides {
             accepted: *accepted,
-            factors: factors_of(&waves),
+            factors,
         }
     }
 }

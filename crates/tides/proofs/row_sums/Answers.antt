@@ -48,16 +48,16 @@ module _ (c : After-raised-a) where
   v-small : c.raised-a.result ≤ 2 ^ 23
   v-small = rw v-is (omega (arith, abs_sum a (pos (2 ^ 22)), small_at (accepted _ c.args.waves.now.accepted.own) c.args.k c.loop-f.f c.requires (omega arith)))
 
-  cosine-small : get_or c.args.waves.now.cosines c.loop-f.f 0 ≤ 2 ^ 31
+  cosine-small : get_or c.args.waves.now.cosines.now c.loop-f.f 0 ≤ 2 ^ 31
   cosine-small = c.args.waves.now.cosines_bounded.each c.loop-f.f (omega arith)
 
-  sine-small : get_or c.args.waves.now.sines c.loop-f.f 0 ≤ 2 ^ 31
+  sine-small : get_or c.args.waves.now.sines.now c.loop-f.f 0 ≤ 2 ^ 31
   sine-small = c.args.waves.now.sines_bounded.each c.loop-f.f (omega arith)
 
-  x-small : c.raised-a.result * get_or c.args.waves.now.cosines c.loop-f.f 0 ≤ 2 ^ 54
+  x-small : c.raised-a.result * get_or c.args.waves.now.cosines.now c.loop-f.f 0 ≤ 2 ^ 54
   x-small = mul-le-mul v-small cosine-small
 
-  y-small : c.raised-a.result * get_or c.args.waves.now.sines c.loop-f.f 0 ≤ 2 ^ 54
+  y-small : c.raised-a.result * get_or c.args.waves.now.sines.now c.loop-f.f 0 ≤ 2 ^ 54
   y-small = mul-le-mul v-small sine-small
 
 pub loop-f-init : goal.loop-f-init
@@ -87,8 +87,8 @@ pub loop-f-preserved : goal.loop-f-preserved
 loop-f-preserved c =
     let l = c.loop-f in
     let termOf : List ℕ → ℕ → ℕ = λ waves v. v * get_or waves l.f 0 in (
-      c.plus_line-x.ensures ∙ weight_more _ l.f l.invariant.0 (ap (termOf (goal.at.loop-f-preserved c).Start.args.waves.now.cosines) (v-is (goal.at.loop-f-preserved c).After-raised-a)),
-      c.plus_line-y.ensures ∙ weight_more _ l.f l.invariant.1 (ap (termOf (goal.at.loop-f-preserved c).Start.args.waves.now.sines) (v-is (goal.at.loop-f-preserved c).After-raised-a)),
+      c.plus_line-x.ensures ∙ weight_more _ l.f l.invariant.0 (ap (termOf (goal.at.loop-f-preserved c).Start.args.waves.now.cosines.now) (v-is (goal.at.loop-f-preserved c).After-raised-a)),
+      c.plus_line-y.ensures ∙ weight_more _ l.f l.invariant.1 (ap (termOf (goal.at.loop-f-preserved c).Start.args.waves.now.sines.now) (v-is (goal.at.loop-f-preserved c).After-raised-a)),
       weight_more _ l.f l.invariant.2 (c.from-row.ensures ∙ v-is (goal.at.loop-f-preserved c).After-raised-a),
       omega (arith, x-small (goal.at.loop-f-preserved c).After-raised-a, c.plus_line-x.ensures),
       omega (arith, y-small (goal.at.loop-f-preserved c).After-raised-a, c.plus_line-y.ensures),
@@ -122,6 +122,6 @@ returns c =
     let A = accepted _ w.accepted.own in
     let lines = w.accepted.sheet.laid.lines in
     record {
-      cosines = told w64 c.lowered_sum.type_inv (row-lowered A c.args.k c.requires w.cosines c.loop-f.f w.accepted.sheet.layout.lines _ _ _ (all (goal.at.returns c).After-loop-f) lines i.0 i.2 w.cosines_added c.lowered_sum.ensures);
-      sines = told w64 c.lowered_sum-2.type_inv (row-lowered A c.args.k c.requires w.sines c.loop-f.f w.accepted.sheet.layout.lines _ _ _ (all (goal.at.returns c).After-loop-f) lines i.1 i.2 w.sines_added c.lowered_sum-2.ensures);
+      cosines = told w64 c.lowered_sum.type_inv (row-lowered A c.args.k c.requires w.cosines.now c.loop-f.f w.accepted.sheet.layout.lines _ _ _ (all (goal.at.returns c).After-loop-f) lines i.0 i.2 w.cosines_added c.lowered_sum.ensures);
+      sines = told w64 c.lowered_sum-2.type_inv (row-lowered A c.args.k c.requires w.sines.now c.loop-f.f w.accepted.sheet.layout.lines _ _ _ (all (goal.at.returns c).After-loop-f) lines i.1 i.2 w.sines_added c.lowered_sum-2.ensures);
     }

@@ -17,4 +17,4 @@ row_of s k f = row (admittance s k) (λ i. 0) (2 ^ 22) (2 ^ 30) f
 abbrev pub invariant-loop-f : goal.invariant-loop-f
 invariant-loop-f l =
     let s = l.waves.accepted.sheet.bytes.now in
-    (l.x ≡ products_of s l.k l.waves.cosines l.f) × (l.y ≡ products_of s l.k l.waves.sines l.f) × (l.row ≡ row_of s l.k l.f) × (l.x ≤ l.f * 2 ^ 54) × (l.y ≤ l.f * 2 ^ 54) × (l.row ≤ l.f * 2 ^ 23)
+    (l.x ≡ products_of s l.k l.waves.cosines.now l.f) × (l.y ≡ products_of s l.k l.waves.sines.now l.f) × (l.row ≡ row_of s l.k l.f) × (l.x ≤ l.f * 2 ^ 54) × (l.y ≤ l.f * 2 ^ 54) × (l.row ≤ l.f * 2 ^ 23)

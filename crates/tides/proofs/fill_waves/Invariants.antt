@@ -4,7 +4,7 @@ use lib.ListN.{length}
 use Rattle.wave.specs.Wave.{sin, cos}
 use Rattle.tides.specs.Tides.{line_phase}
 use Rattle.tides.specs.Inner.{Raised}
-use Rattle.tides.proofs.waves_of.Given as goal
+use Rattle.tides.proofs.fill_waves.Given as goal
 
 abbrev pub invariant-loop-f : goal.invariant-loop-f
 invariant-loop-f l =

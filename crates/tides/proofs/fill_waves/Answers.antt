@@ -1,26 +1,21 @@
 -- A wave is at most 2^30, so that it is unsigned once raised by that; a line's place is below 128.
-use mathlib.Core.List.{List}
 use mathlib.Core.Path.{◌≡◌, ap, ◌∙◌}
 use Prim.Native.Nat.{ℕ, ◌^◌, ◌≤◌}
 use native.Mathlib.Omega.{arith}
-use Rattle.std.proofs.Common.{rules}
 use lib.IntN.{ℤ, pos, nat_abs, ◌+ℤ◌}
 use lib.ListN.{length-set}
 use mir.Syntax.{w64}
 use mir.Val.{to_z, of_z}
 use Rattle.arguments.specs.declared.Multipliers.{Multipliers}
 use Rattle.arguments.specs.Phase.{phase}
-use Rattle.sheet.specs.Sheet.{line_count}
 use Rattle.sheet.proofs.Acceptance.{accepted}
 use Rattle.wave.specs.Wave.{sin, cos}
 use Rattle.wave.proofs.Size.{sin_size, cos_size}
 use Rattle.tides.specs.Tides.{line_phase}
-use Rattle.tides.specs.Inner.{Bounded}
-use Rattle.tides.proofs.Factors.{waves_bounded}
 use Rattle.tides.proofs.Lists.{raised_none, raised_more}
 use Rattle.tides.proofs.Sizes.{read_back}
-use Rattle.tides.proofs.waves_of.Goals as goal
-use Rattle.tides.proofs.waves_of.Goals.{After-loop-f, After-wave_of-wave, Start}
+use Rattle.tides.proofs.fill_waves.Goals as goal
+use Rattle.tides.proofs.fill_waves.Goals.{After-wave_of-wave, Start}
 
 -- a turn, once the wave is known
 module _ (c : After-wave_of-wave) where
@@ -39,22 +34,8 @@ module _ (c : After-wave_of-wave) where
 few : (s : Start) → s.args.accepted.now.sheet.layout.lines ≤ 128
 few s = let a = s.args.accepted.now in omega (arith, a.sheet.laid.lines, (accepted _ a.own).shape.lines-most)
 
--- once the waves of all lines are stored
-module _ (c : After-loop-f) where
-  abbrev s : List ℕ
-  s = c.args.accepted.now.sheet.bytes.now
-
-  all : c.loop-f.f ≡ line_count s
-  all = omega (arith, c.args.accepted.now.sheet.laid.lines)
-
-  cosines-bounded : Bounded (line_count s) c.loop-f.cosines
-  cosines-bounded = waves_bounded s (λ f. cos (line_phase s c.args.phases f)) (λ f. cos_size (line_phase s c.args.phases f)) _ (rw (← all) c.loop-f.invariant.2)
-
-  sines-bounded : Bounded (line_count s) c.loop-f.sines
-  sines-bounded = waves_bounded s (λ f. sin (line_phase s c.args.phases f)) (λ f. sin_size (line_phase s c.args.phases f)) _ (rw (← all) c.loop-f.invariant.3)
-
 pub loop-f-init : goal.loop-f-init
-loop-f-init c = (search rules, search rules, raised_none _ _, raised_none _ _)
+loop-f-init c = (c.requires.0, c.requires.1, raised_none _ _, raised_none _ _)
 
 pub raised-requires : goal.raised-requires
 raised-requires c = let w = (goal.at.raised-requires c).After-wave_of-wave in rw (cosine-read w) (cos_size (t w), omega arith)
@@ -78,21 +59,3 @@ loop-f-preserved c =
       raised_more _ l.f l.cosines l.invariant.2 (omega (arith, few (goal.at.loop-f-preserved c).Start)) (c.raised.ensures ∙ ap up (cosine-read w)),
       raised_more _ l.f l.sines l.invariant.3 (omega (arith, few (goal.at.loop-f-preserved c).Start)) (c.raised-in-loop-f.ensures ∙ ap up (sine-read w)),
     )
-
-pub total_of-cosine_total-requires : goal.total_of-cosine_total-requires
-total_of-cosine_total-requires c =
-    (few (goal.at.total_of-cosine_total-requires c).Start, rw c.args.accepted.now.sheet.laid.lines (cosines-bounded (goal.at.total_of-cosine_total-requires c).After-loop-f))
-
-pub total_of-sine_total-requires : goal.total_of-sine_total-requires
-total_of-sine_total-requires c =
-    (few (goal.at.total_of-sine_total-requires c).Start, rw c.args.accepted.now.sheet.laid.lines (sines-bounded (goal.at.total_of-sine_total-requires c).After-loop-f))
-
-pub invariant_of-result : goal.invariant_of-result
-invariant_of-result c =
-    let l = c.args.accepted.now.sheet.laid.lines in
-    record {
-      cosines_bounded = cosines-bounded (goal.at.invariant_of-result c).After-loop-f;
-      sines_bounded = sines-bounded (goal.at.invariant_of-result c).After-loop-f;
-      cosines_added = rw l at c.total_of-cosine_total.ensures;
-      sines_added = rw l at c.total_of-sine_total.ensures;
-    }

@@ -3,7 +3,6 @@ use mathlib.Core.List.{List}
 use mathlib.Core.Path.{◌≡◌, ap, ◌∙◌}
 use Prim.Native.Nat.{ℕ, ◌^◌, ◌<◌}
 use native.Mathlib.Omega.{arith}
-use Rattle.std.proofs.Common.{rules}
 use lib.IntN.{ℤ, nat_abs}
 use lib.ListN.{length-set}
 use mir.Syntax.{w64}
@@ -17,8 +16,8 @@ use Rattle.tides.specs.Inner.{lowered, Bounded}
 use Rattle.tides.proofs.Lists.{lists_none, lists_more}
 use Rattle.tides.proofs.Lowering.{lowered_size}
 use Rattle.tides.proofs.Sizes.{read_back, line_size}
-use Rattle.tides.proofs.factors_of.Goals as goal
-use Rattle.tides.proofs.factors_of.Goals.{After-row_sums-sums}
+use Rattle.tides.proofs.fill_factors.Goals as goal
+use Rattle.tides.proofs.fill_factors.Goals.{After-row_sums-sums}
 
 -- a turn, once both sums are known
 module _ (c : After-row_sums-sums) where
@@ -32,20 +31,20 @@ module _ (c : After-row_sums-sums) where
   sum-small waves B =
       omega (arith, line_size (accepted _ c.args.waves.now.accepted.own) (lowered waves) (lowered_size B) c.loop-k.k (omega (arith, c.args.waves.now.accepted.sheet.laid.tides)))
 
-  cosines-small : nat_abs (sum_of c.args.waves.now.cosines) < 2 ^ 59
-  cosines-small = sum-small c.args.waves.now.cosines c.args.waves.now.cosines_bounded
+  cosines-small : nat_abs (sum_of c.args.waves.now.cosines.now) < 2 ^ 59
+  cosines-small = sum-small c.args.waves.now.cosines.now c.args.waves.now.cosines_bounded
 
-  sines-small : nat_abs (sum_of c.args.waves.now.sines) < 2 ^ 59
-  sines-small = sum-small c.args.waves.now.sines c.args.waves.now.sines_bounded
+  sines-small : nat_abs (sum_of c.args.waves.now.sines.now) < 2 ^ 59
+  sines-small = sum-small c.args.waves.now.sines.now c.args.waves.now.sines_bounded
 
-  cosines-read : to_z w64 (of_z w64 c.row_sums-sums.result.cosines) ≡ sum_of c.args.waves.now.cosines
+  cosines-read : to_z w64 (of_z w64 c.row_sums-sums.result.cosines) ≡ sum_of c.args.waves.now.cosines.now
   cosines-read = read_back c.row_sums-sums.ensures.cosines (omega (arith, cosines-small))
 
-  sines-read : to_z w64 (of_z w64 c.row_sums-sums.result.sines) ≡ sum_of c.args.waves.now.sines
+  sines-read : to_z w64 (of_z w64 c.row_sums-sums.result.sines) ≡ sum_of c.args.waves.now.sines.now
   sines-read = read_back c.row_sums-sums.ensures.sines (omega (arith, sines-small))
 
 pub loop-k-init : goal.loop-k-init
-loop-k-init c = (search rules, lists_none _ _, lists_none _ _)
+loop-k-init c = (c.requires, lists_none _ _, lists_none _ _)
 
 pub nearest_of-requires : goal.nearest_of-requires
 nearest_of-requires c = let w = (goal.at.nearest_of-requires c).After-row_sums-sums in (omega arith, rw (cosines-read w) (omega (arith, cosines-small w)))
