@@ -2,12 +2,10 @@
 use mathlib.Core.Path.{◌≡◌, refl, sym, ap, ◌∙◌}
 use mathlib.Core.Bool.{true, false, ◌&&◌}
 use mathlib.Core.List.{List}
-use Prim.Native.Nat.{ℕ, ◌≤◌}
+use Prim.Native.Nat.{ℕ}
 use lib.IntN.{nat_abs}
 use Rattle.std.specs.Prelude.{Option}
 use Rattle.choices.specs.declared.PermanentSystem.{PermanentSystem}
-use lib.ListN.{length}
-use Rattle.whole.proofs.Tests.{and_left}
 use Rattle.icgem_decimal.specs.Decimal.{is_whole, in_units}
 use Rattle.icgem_names.specs.Names as names
 use Rattle.icgem_words.specs.Words.{worded}

@@ -2,28 +2,38 @@
 use mathlib.Core.Bool.{Bool, true, false, cond, ◌&&◌}
 use mathlib.Core.Path.{◌≡◌, refl, sym, ap, ap₂, ◌∙◌}
 use mathlib.Core.List.{List}
-use Prim.Native.Nat.{ℕ, ◌≤◌}
+use Prim.Native.Nat.{ℕ, ◌-◌, ◌≤◌}
 use native.Mathlib.Omega.{arith}
 use lib.IntN.{ℤ}
-use lib.ListN.{length, drop}
+use lib.ListN.{length, length-drop}
+use Rattle.std.specs.Prelude.{Option, Some, None, Result, Ok, Err, IsErrAnd, MatchResult, ok_or}
 use Rattle.whole.proofs.Tests.{and_left}
 use Rattle.choices.specs.declared.PermanentSystem.{PermanentSystem}
 use Rattle.limits.specs.Limits.{is_degree}
+use Rattle.refusals.specs.declared.Refusal.{Refusal}
 use Rattle.refusals.specs.Outcome.{first_of}
 use Rattle.refusals.specs.Told.{told_number}
 use Rattle.refusals.specs.Told.Told.{accepted}
-use Rattle.refusals.proofs.Outcomes.{first_none}
+use Rattle.refusals.proofs.Outcomes.{first_none, first_kept, first_passed}
 use Rattle.icgem_decimal.specs.Decimal.{is_whole, value_of}
-use Rattle.icgem_file.specs.declared.FileHead.{FileHead}
-use Rattle.icgem_file.specs.Header.{Line, data_of, degree_of, system_word}
+use Rattle.icgem_file.specs.Header.{Line, degree_of, system_word}
 use Rattle.icgem_file.specs.Data.{data_formed, repeated, all_in_range}
 use Rattle.icgem_file.specs.File.{system_said, file_refusal, head_said}
-use Rattle.icgem_header.specs.declared.System.{System}
-use Rattle.icgem_header.specs.Read.{HeaderRead, tells_system}
-use Rattle.icgem_words.specs.Inner.{part}
+use Rattle.icgem_header.specs.declared.Header.{Header}
+use Rattle.icgem_header.specs.Read.{HeaderIs, tells_system}
 use Rattle.icgem_words.specs.Words.{worded}
-use Rattle.icgem_read.specs.Inner.{DegreeRead, data_refusal, DataRead, PassedFile}
+use Rattle.icgem_read.specs.Inner.{DegreeRead, data_refusal, Filled, Passed}
 use Rattle.icgem_read.proofs.Refusals.{file_headed}
+
+-- what holds of each error that a result can be holds of it
+pub by_err : {T : Type 0} (result : Result T Refusal) (P : T → Type 0) (R : Refusal → Type 0) {Q : Refusal → Type 0}
+    → IsErrAnd result Q → ((why : Refusal) → Q why → R why) → MatchResult result P R
+by_err (Ok value) P R q f = absurd q
+by_err (Err why) P R q f = f why q
+
+pub refused_by : {T : Type 0} (value : Option T) (why other : Refusal) → ◌≡◌ {A = Result T Refusal} (Err why) (ok_or value other) → (value ≡ None) × (why ≡ other)
+refused_by None why other e = (refl, cc)
+refused_by (Some x) why other e = absurd cc
 
 -- data that nothing refuses have a degree
 fine_degree : (n : ℕ) (lines : List Line) → data_refusal n lines ≡ 0 → is_degree n ≡ true
@@ -34,54 +44,38 @@ fine_degree n lines e = and_left (is_degree n) (all_in_range lines) (by_test (is
     by_test true z = refl
     by_test false z = absurd (omega (arith, z))
 
-module _ {text : List ℕ} {ok : Bool} {place from to constant radius : ℕ} {system : System} (head : HeaderRead text ok place from to constant radius system) where
-  -- the degree's word is a whole number
-  pub degree_whole_part : ok ≡ true → is_whole (part from to text) ≡ true
-  degree_whole_part o = ap is_whole head.degree_is ∙ head.degree_whole o
+module _ {text : List ℕ} {header : Header} (head : HeaderIs text header) (h : length text ≤ 131072) where
+  pub data_short : length header.data.now ≤ 131072
+  data_short = omega (arith, ap length head.data_last, length-drop (length text - length header.data.now) text)
 
-  degree_part : value_of (part from to text) ≡ degree_of (worded text)
+  pub degree_whole : is_whole header.degree.now ≡ true
+  degree_whole = ap is_whole head.degree_is ∙ head.degree_whole
+
+  degree_is : value_of header.degree.now ≡ degree_of (worded text)
   unfolding degree_of
-  degree_part = ap value_of head.degree_is
+  degree_is = ap value_of head.degree_is
 
-  module _ (h : length text ≤ 131072) (o : ok ≡ true) {c s c' s' : List ℤ} {number system-number all : ℕ} {p : PermanentSystem} {n : ℕ}
-      (read : DataRead (value_of (part from to text)) (worded (drop place text)) c s number c' s') (system_is : system-number ≡ told_number (tells_system system))
-      (all-is : all ≡ first_of number system-number) (said : told_number (tells_system system) ≡ 0 → tells_system system ≡ accepted p) (taken : DegreeRead (part from to text) n) where
-    number_of : number ≡ data_refusal (degree_of (worded text)) (data_of (worded text))
-    number_of = read.number_is ∙ ap₂ data_refusal degree_part (sym head.data_is)
+  refusal_is : {number : ℕ} → data_refusal (value_of header.degree.now) (worded header.data.now) ≡ number
+      → file_refusal text ≡ first_of number (told_number (system_said (system_word (worded text))))
+  refusal_is e = file_headed text h head.formed ∙ ap (λ (n : ℕ). first_of n (told_number (system_said (system_word (worded text))))) (ap₂ data_refusal (sym degree_is) head.data_is ∙ e)
 
-    passes : all ≡ 0 → (number ≡ 0) × (system-number ≡ 0)
-    passes z = first_none number system-number (sym all-is ∙ z)
+  pub data_refuses : (number : ℕ) → (number ≡ 0 → ⊥) → data_refusal (value_of header.degree.now) (worded header.data.now) ≡ number → file_refusal text ≡ number
+  data_refuses number o e = refusal_is e ∙ first_kept number _ o
 
-    degree_told : all ≡ 0 → n ≡ degree_of (worded text)
-    degree_told z =
-        taken.value_is (taken.degree_is ∙ ap is_degree degree_part ∙ fine_degree (degree_of (worded text)) (data_of (worded text)) (sym number_of ∙ (passes z).0)) ∙ degree_part
+  module _ (z : data_refusal (value_of header.degree.now) (worded header.data.now) ≡ 0) where
+    pub systemless : header.system ≡ None → file_refusal text ≡ 20
+    systemless e = refusal_is z ∙ first_passed 0 _ refl ∙ ap told_number (sym head.system_is ∙ ap tells_system e)
 
-    head_told : all ≡ 0 → head_said text ≡ accepted (record { degree = n; constant = constant; radius = radius; system = p })
+    pub passed : {c s c' s' : List ℤ} {system : PermanentSystem} {degree : ℕ} → Filled (worded header.data.now) c s c' s' → header.system ≡ Some system
+        → DegreeRead header.degree.now degree
+        → Passed text c s (record { degree = degree; constant = header.constant; radius = header.radius; system = system }) c' s'
     unfolding head_said
-    head_told z =
-        let s : system_said (system_word (worded text)) ≡ accepted p = sym head.system_is ∙ said (sym system_is ∙ (passes z).1) in
-        rw (s, degree_told z, head.constant_is o, head.radius_is o) refl
-
-    pub passed : PassedFile text c s all (record { degree = n; constant = constant; radius = radius; system = p }) c' s'
-    passed = record {
-      number_is =
-          all-is ∙ ap₂ first_of number_of (system_is ∙ ap told_number head.system_is)
-          ∙ sym (file_headed text h (sym head.ok_is ∙ o));
-      head_is = head_told;
-      degree_is = degree_told;
-      lists = record {
-        c_is = λ z. rw head.data_is (read.lists.c_is (passes z).0);
-        s_is = λ z. rw head.data_is (read.lists.s_is (passes z).0);
-        c-room = read.lists.c-room;
-        s-room = read.lists.s-room;
-      };
-    }
-
--- a file that is malformed, its lists as they were
-pub not_passed : {text : List ℕ} {c s : List ℤ} {number : ℕ} (head : FileHead) → number ≡ 17 → file_refusal text ≡ 17 → PassedFile text c s number head c s
-not_passed head e f = record {
-  number_is = e ∙ sym f;
-  head_is = λ z. absurd (omega arith);
-  degree_is = λ z. absurd (omega arith);
-  lists = record { c_is = λ z. absurd (omega arith); s_is = λ z. absurd (omega arith); c-room = refl; s-room = refl };
-}
+    passed {system} filled e taken =
+        let said : system_said (system_word (worded text)) ≡ accepted system = sym head.system_is ∙ ap tells_system e in
+        let n = taken.value_is (taken.degree_is ∙ fine_degree _ _ z) ∙ degree_is in
+        record {
+          none = refusal_is z ∙ first_passed 0 _ refl ∙ ap told_number said;
+          head_is = rw (said, n, head.constant_is, head.radius_is) refl;
+          degree_is = n;
+          lists = record { c_is = rw head.data_is filled.c_is; s_is = rw head.data_is filled.s_is };
+        }

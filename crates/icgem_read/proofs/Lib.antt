@@ -1,4 +1,3 @@
-pub mod Copies
 pub mod Degrees
 pub mod Refusals
 pub mod Sound

@@ -1,7 +1,6 @@
 -- After the line, or with the head.
-use mathlib.Core.Path.{refl, sym, ◌∙◌}
+use mathlib.Core.Path.{refl, sym}
 use native.Mathlib.Omega.{arith}
-use lib.ListN.{length, drop, length-drop}
 use Rattle.std.proofs.lemmas.Result.{MatchResult-from_err}
 use Rattle.text.specs.Text.{ascii}
 use Rattle.icgem_file.specs.Header.{entries_of}

@@ -1,6 +1,5 @@
 -- The head up to its end, its entries, and what they say.
-use mathlib.Core.Path.{refl, sym, ◌∙◌}
-use native.Mathlib.Omega.{arith}
+use mathlib.Core.Path.{refl, ◌∙◌}
 use Rattle.std.proofs.lemmas.Result.{MatchResult-from_err}
 use Rattle.text.specs.Text.{ascii}
 use Rattle.icgem_header.proofs.Head.{endless, begun_twice, formed_is, header_is}

@@ -1,10 +1,9 @@
 -- Each entry, and what its word writes.
-use mathlib.Core.Path.{◌≡◌, sym, ap, ◌∙◌}
-use native.Mathlib.Omega.{arith}
+use mathlib.Core.Path.{sym, ap, ◌∙◌}
 use lib.IntN.{nat_abs}
 use Rattle.std.proofs.lemmas.Result.{MatchResult-from_err}
 use Rattle.text.specs.Text.{ascii}
-use Rattle.icgem_decimal.specs.Decimal.{is_whole, in_units}
+use Rattle.icgem_decimal.specs.Decimal.{in_units}
 use Rattle.icgem_header.specs.Inner.{numbers_fit}
 use Rattle.icgem_header.proofs.numbers_of.Goals as goal
 

@@ -1,5 +1,4 @@
 -- Each entry, and what its word should be.
-use mathlib.Core.Path.{◌≡◌, sym, ap, ◌∙◌}
 use Rattle.std.proofs.lemmas.Result.{MatchResult-from_err}
 use Rattle.std.proofs.Common.{rules}
 use Rattle.text.specs.Text.{ascii}
