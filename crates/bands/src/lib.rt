@@ -7,7 +7,7 @@ ghost use Rattle.std.specs.Prelude.{◌≡◌, ◌+ℤ◌, ◌*ℤ◌};
 ghost use Rattle.bands.specs.Bands.{plus_line};
 ghost use Rattle.bands.specs.Inner.{Room, LineRoom, Bounded, rounded_of};
 
-#[derive(Clone, Copy)]
+#[derive(Clone, Copy, Debug, PartialEq, Eq)]
 pub enum Band {
     Diurnal,
     LongPeriod,
@@ -15,15 +15,15 @@ pub enum Band {
 }
 
 // Its in-phase and its out-of-phase amplitude are in counts.
-#[derive(Clone, Copy)]
+#[derive(Clone, Copy, Debug, PartialEq, Eq)]
 pub struct Line {
     pub band: Band,
     pub ip: i64,
     pub op: i64,
 }
 
-// Amplitudes times waves, added up over lines.
-#[derive(Clone, Copy)]
+// Amplitudes times waves, added up over lines: counts times 2^30.
+#[derive(Clone, Copy, Debug, PartialEq, Eq)]
 pub struct Sums {
     pub c20: i64,
     pub c21: i64,
@@ -32,8 +32,17 @@ pub struct Sums {
     pub s22: i64,
 }
 
-// The five corrections, in counts.
-#[derive(Clone, Copy)]
+// The sums of no lines.
+pub const NOTHING: Sums = Sums {
+    c20: 0,
+    c21: 0,
+    s21: 0,
+    c22: 0,
+    s22: 0,
+};
+
+// The five corrections, in counts. One type for sums and corrections would be no plainer: a call could then take sums, of another unit, for corrections.
+#[derive(Clone, Copy, Debug, PartialEq, Eq)]
 pub struct Corrections {
     pub c20: i64,
     pub c21: i64,

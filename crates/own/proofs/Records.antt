@@ -13,7 +13,7 @@ use Rattle.own.specs.Own.{line_of, in_range}
 
 module _ (l : OwnLine) (e : in_range l ≡ true) where
   abbrev multipliers : Bool
-  multipliers = is_first_multiplier l.tau && is_multiplier l.s && is_multiplier l.h && is_multiplier l.p && is_multiplier l.np && is_multiplier l.ps
+  multipliers = is_first_multiplier l.multipliers.tau && is_multiplier l.multipliers.s && is_multiplier l.multipliers.h && is_multiplier l.multipliers.p && is_multiplier l.multipliers.np && is_multiplier l.multipliers.ps
 
   pub ip_range : nat_abs l.ip ≤ 100000
   unfolding in_range

@@ -22,12 +22,12 @@ abbrev First : ℤ → Type 0
 First k = (k ≡ pos 0) ⊎ ((k ≡ pos 1) ⊎ (k ≡ pos 2))
 
 pub record InRange (l : OwnLine) : Type 0 where
-  pub first : First l.tau
-  pub s : nat_abs l.s ≤ 13
-  pub h : nat_abs l.h ≤ 13
-  pub p : nat_abs l.p ≤ 13
-  pub np : nat_abs l.np ≤ 13
-  pub ps : nat_abs l.ps ≤ 13
+  pub first : First l.multipliers.tau
+  pub s : nat_abs l.multipliers.s ≤ 13
+  pub h : nat_abs l.multipliers.h ≤ 13
+  pub p : nat_abs l.multipliers.p ≤ 13
+  pub np : nat_abs l.multipliers.np ≤ 13
+  pub ps : nat_abs l.multipliers.ps ≤ 13
   pub ip : nat_abs l.ip ≤ 100000
   pub op : nat_abs l.op ≤ 100000
 
@@ -61,12 +61,12 @@ amplitude a = (λ e. leb-true _ _ e, λ h. le-leb _ _ h)
 pub of_record : (l : OwnLine) → in_range l ≡ true ↔ InRange l
 unfolding in_range
 of_record l =
-    let a = is_first_multiplier l.tau in
-    let b = is_multiplier l.s in
-    let c = is_multiplier l.h in
-    let d = is_multiplier l.p in
-    let e = is_multiplier l.np in
-    let f = is_multiplier l.ps in
+    let a = is_first_multiplier l.multipliers.tau in
+    let b = is_multiplier l.multipliers.s in
+    let c = is_multiplier l.multipliers.h in
+    let d = is_multiplier l.multipliers.p in
+    let e = is_multiplier l.multipliers.np in
+    let f = is_multiplier l.multipliers.ps in
     let g = is_amplitude l.ip in
     let k = is_amplitude l.op in (
       λ t.
@@ -77,17 +77,17 @@ of_record l =
           let t3 = and_left (a && b && c) d t4 in
           let t2 = and_left (a && b) c t3 in
           record {
-            first = (first l.tau).0 (and_left a b t2);
-            s = (multiplier l.s).0 (and_right a b t2);
-            h = (multiplier l.h).0 (and_right (a && b) c t3);
-            p = (multiplier l.p).0 (and_right (a && b && c) d t4);
-            np = (multiplier l.np).0 (and_right (a && b && c && d) e t5);
-            ps = (multiplier l.ps).0 (and_right (a && b && c && d && e) f t6);
+            first = (first l.multipliers.tau).0 (and_left a b t2);
+            s = (multiplier l.multipliers.s).0 (and_right a b t2);
+            h = (multiplier l.multipliers.h).0 (and_right (a && b) c t3);
+            p = (multiplier l.multipliers.p).0 (and_right (a && b && c) d t4);
+            np = (multiplier l.multipliers.np).0 (and_right (a && b && c && d) e t5);
+            ps = (multiplier l.multipliers.ps).0 (and_right (a && b && c && d && e) f t6);
             ip = (amplitude l.ip).0 (and_right (a && b && c && d && e && f) g t7);
             op = (amplitude l.op).0 (and_right (a && b && c && d && e && f && g) k t);
           },
       λ r.
-          rw ((first l.tau).1 r.first, (multiplier l.s).1 r.s, (multiplier l.h).1 r.h, (multiplier l.p).1 r.p, (multiplier l.np).1 r.np, (multiplier l.ps).1 r.ps, (amplitude l.ip).1 r.ip, (amplitude l.op).1 r.op)
+          rw ((first l.multipliers.tau).1 r.first, (multiplier l.multipliers.s).1 r.s, (multiplier l.multipliers.h).1 r.h, (multiplier l.multipliers.p).1 r.p, (multiplier l.multipliers.np).1 r.np, (multiplier l.multipliers.ps).1 r.ps, (amplitude l.ip).1 r.ip, (amplitude l.op).1 r.op)
           refl,
     )
 

@@ -1,15 +1,7 @@
--- The first records of a list: where each is in range their sums are the definition's, and 64 of them have room; from the first that is not, the list is
--- refused with 13. Of too many none is read.
-use mathlib.Core.Bool.{Bool, true, false}
-use mathlib.Core.List.{List}
-use mathlib.Core.Path.{◌≡◌, refl, sym, ap, subst, ◌∙◌}
-use Prim.Native.Nat.{ℕ, zero, suc, ◌≤◌, ◌<◌}
+-- The first records of a list that is not too long: where each is in range their sums are the definition's, and 64 of them have room; at the first that is
+-- not, the list is refused with 13.
+use Rattle.std.proofs.Common.{◌≡◌, ℕ, zero, ◌+◌, ◌≤◌, ◌<◌, Bool, true, false, List, length, ℤ, pos, Result, Ok, Err, refl, sym, ◌∙◌, arith, add-one}
 use borrow.Author.Tests.{leb-true}
-use native.Mathlib.Numerals.{add-one}
-use native.Mathlib.Omega.{arith}
-use lib.Dec.{T}
-use lib.IntN.{ℤ}
-use lib.ListN.{length}
 use Rattle.arguments.specs.declared.Phases.{Phases}
 use Rattle.bands.specs.declared.Line.{Line}
 use Rattle.bands.specs.declared.Sums.{Sums}
@@ -17,19 +9,16 @@ use Rattle.bands.specs.Bands.{sum_of}
 use Rattle.bands.specs.Inner.{Light, Bounded, sums_of}
 use Rattle.bands.proofs.Sizes.{sum-small, sums_next, bounded}
 use Rattle.limits.specs.Limits.{is_record_count}
-use Rattle.refusals.specs.declared.Answer.{Answer}
 use Rattle.refusals.specs.declared.Refusal.{Refusal}
-use Rattle.refusals.specs.declared.Answer.TheVariants.{Accepted, Refused}
-use Rattle.refusals.specs.declared.Refusal.TheVariants.{RecordCount, RecordValue}
+use Rattle.refusals.specs.declared.Refusal.TheVariants.{RecordValue}
+use Rattle.refusals.specs.Numbers.{refusal_number}
 use Rattle.wave.specs.Wave.{sin, cos}
 use Rattle.wave.proofs.Size.{sin_size, cos_size}
 use Rattle.whole.specs.Sum.{sum_to, all_to}
 use Rattle.whole.proofs.Counted.{all_none, all_at}
-use Rattle.whole.proofs.Tests.{and_left, and_right}
 use Rattle.own.specs.declared.OwnLine.{OwnLine}
-use Rattle.own.specs.declared.Summed.{Summed}
 use Rattle.own.specs.Own.{line_of, in_range, record_at, own_phase, records_refusal}
-use Rattle.own.specs.Inner.{records_read, begun_with, after, summed_to, Totals}
+use Rattle.own.specs.Inner.{plus_record, with_record, Totals}
 use Rattle.own.proofs.Records.{record_light}
 
 module _ (phases : Phases) (l : List OwnLine) where
@@ -57,102 +46,52 @@ module _ (phases : Phases) (l : List OwnLine) where
       bounded lines C S 10000000 n (omega arith) h refl
       (sum-small lines C S 10000000 n (light n e) (λ i. omega (arith, cos_size (own_phase phases l i))) (λ i. omega (arith, sin_size (own_phase phases l i))))
 
+  -- the first n records are in range, and the sums are theirs
+  pub record SoFar (n : ℕ) (sums : Sums) : Type 0 where
+    pub in-range : all_to good n ≡ true
+    pub sums_are : sums ≡ summed n
+
+  pub none_read : SoFar zero (record { c20 = pos 0; c21 = pos 0; s21 = pos 0; c22 = pos 0; s22 = pos 0 })
+  unfolding sums_of sum_of sum_to
+  none_read = record { in-range = sym (all_none good); sums_are = refl }
+
+  pub room : (n : ℕ) (sums : Sums) → n ≤ 64 → SoFar n sums → Bounded sums
+  room n sums h so_far = rw so_far.sums_are (summed_bounded n h so_far.in-range)
+
   -- one record more
-  abbrev next : Summed → ℕ → Summed
-  next sum i = after sum.answer phases sum.sums (record_at l i)
+  pub added : (n : ℕ) (sums r : Sums) → SoFar n sums → with_record phases sums (record_at l n) ≡ Ok r → SoFar (n + 1) r
+  unfolding with_record all_to
+  added n sums r so_far e = by_test (good n) refl
+    where
+      by_test : (b : Bool) → good n ≡ b → SoFar (n + 1) r
+      by_test true t =
+          let f : ◌≡◌ {A = Result Sums Refusal} (Ok (plus_record phases sums (record_at l n))) (Ok r) = rw t at e in
+          let same : plus_record phases sums (record_at l n) ≡ r = cc in
+          record { in-range = rw (add-one, so_far.in-range, t) refl; sums_are = sym same ∙ rw so_far.sums_are (sums_next lines C S n) }
+      by_test false t = absurd (let f : ◌≡◌ {A = Result Sums Refusal} (Err RecordValue) (Ok r) = rw t at e in cc)
 
-  in_order : (i : ℕ) (sum : Summed) → sum ≡ record { answer = Accepted; sums = summed i } → good i ≡ true → next sum i ≡ record { answer = Accepted; sums = summed (suc i) }
-  unfolding after
-  in_order i sum e g =
-      ap (λ (x : Summed). next x i) e ∙ rw g (λ j. record { answer = Accepted; sums = (sums_next lines C S i ∙ ap summed (add-one i)) j })
+  -- one that is out of range
+  pub ended : (n : ℕ) (sums : Sums) (why : Refusal) → is_record_count (length l) ≡ true → n < length l
+      → with_record phases sums (record_at l n) ≡ Err why → refusal_number why ≡ records_refusal l
+  unfolding with_record records_refusal
+  ended n sums why few h e = by_test (good n) refl
+    where
+      not_all : good n ≡ false → all_to good (length l) ≡ false
+      not_all t = by_all (all_to good (length l)) refl
+        where
+          by_all : (b : Bool) → all_to good (length l) ≡ b → all_to good (length l) ≡ false
+          by_all true a = absurd (let g = all_at good (length l) a n h in cc)
+          by_all false a = a
 
-  out_of_order : (i : ℕ) (sum : Summed) → sum ≡ record { answer = Accepted; sums = summed i } → good i ≡ false → next sum i ≡ record { answer = Refused RecordValue; sums = sum.sums }
-  unfolding after
-  out_of_order i sum e g = ap (λ (x : Summed). next x i) e ∙ rw g (λ j. record { answer = Refused RecordValue; sums = (sym e j).sums })
+      by_test : (b : Bool) → good n ≡ b → refusal_number why ≡ records_refusal l
+      by_test true t = absurd (let f : ◌≡◌ {A = Result Sums Refusal} (Ok (plus_record phases sums (record_at l n))) (Err why) = rw t at e in cc)
+      by_test false t =
+          let f : ◌≡◌ {A = Result Sums Refusal} (Err RecordValue) (Err why) = rw t at e in
+          let same : why ≡ RecordValue = cc in
+          rw (same, few, not_all t) refl
 
-  ended : (i : ℕ) (sum : Summed) (why : Refusal) → sum.answer ≡ Refused why → next sum i ≡ record { answer = Refused why; sums = sum.sums }
-  unfolding after
-  ended i sum why e = ap (λ (a : Answer). after a phases sum.sums (record_at l i)) e
-
-  -- a list that is not too long
-  module _ (few : is_record_count (length l) ≡ true) where
-    whole : (i : ℕ) → all_to good i ≡ true → summed_to phases l i ≡ record { answer = Accepted; sums = summed i }
-    unfolding all_to summed_to begun_with sums_of sum_of sum_to
-    whole zero e = rw few refl
-    whole (suc i) e = in_order i (summed_to phases l i) (whole i (and_left (all_to good i) (good i) e)) (and_right (all_to good i) (good i) e)
-
-    -- once a record is out of range nothing is added any more
-    broken : (i : ℕ) → all_to good (suc i) ≡ false → (all_to good i ≡ false → (summed_to phases l i).answer ≡ Refused RecordValue)
-        → summed_to phases l (suc i) ≡ record { answer = Refused RecordValue; sums = (summed_to phases l i).sums }
-    unfolding all_to summed_to
-    broken i e before = by_test (all_to good i) refl
-      where
-        by_test : (b : Bool) → all_to good i ≡ b → next (summed_to phases l i) i ≡ record { answer = Refused RecordValue; sums = (summed_to phases l i).sums }
-        by_test true t = out_of_order i (summed_to phases l i) (whole i t) (rw t at e)
-        by_test false t = ended i (summed_to phases l i) RecordValue (before t)
-
-    refused : (i : ℕ) → all_to good i ≡ false → (summed_to phases l i).answer ≡ Refused RecordValue
-    unfolding all_to
-    refused zero e = absurd (subst T e tt)
-    refused (suc i) e = ap (λ (x : Summed). x.answer) (broken i e (refused i))
-
-    few_room : (i : ℕ) → i ≤ 64 → Bounded (summed_to phases l i).sums
-    few_room zero h = rw (whole zero (sym (all_none good))) (summed_bounded zero h (sym (all_none good)))
-    few_room (suc i) h = by_test (all_to good (suc i)) refl (few_room i (omega arith))
-      where
-        by_test : (b : Bool) → all_to good (suc i) ≡ b → Bounded (summed_to phases l i).sums → Bounded (summed_to phases l (suc i)).sums
-        by_test true t before = rw (whole (suc i) t) (summed_bounded (suc i) h t)
-        by_test false t before = rw (broken i t (refused i)) before
-
-    few_totals : Totals phases l (summed_to phases l (length l))
-    unfolding records_refusal
-    few_totals = by_test (all_to good (length l)) refl
-      where
-        by_test : (b : Bool) → all_to good (length l) ≡ b → Totals phases l (summed_to phases l (length l))
-        by_test true t = record {
-          number = rw (whole (length l) t, few, t) refl;
-          sums = λ e. ap (λ (x : Summed). x.sums) (whole (length l) t);
-          bounded = few_room (length l) (leb-true (length l) 64 few);
-        }
-        by_test false t = record {
-          number = rw (refused (length l) t, few, t) refl;
-          sums = λ e. let z : ◌≡◌ {A = ℕ} 13 0 = rw (few, t) at e in absurd (omega (arith, z));
-          bounded = few_room (length l) (leb-true (length l) 64 few);
-        }
-
-  -- one that is
-  module _ (many : is_record_count (length l) ≡ false) where
-    begun : summed_to phases l zero ≡ record { answer = Refused RecordCount; sums = summed zero }
-    unfolding summed_to begun_with sums_of sum_of sum_to
-    begun = rw many refl
-
-    idle : (i : ℕ) → summed_to phases l i ≡ record { answer = Refused RecordCount; sums = summed zero }
-    unfolding summed_to
-    idle zero = begun
-    idle (suc i) = ended i (summed_to phases l i) RecordCount (ap (λ (x : Summed). x.answer) (idle i)) ∙ (λ j. record { answer = Refused RecordCount; sums = (idle i j).sums })
-
-    many_room : (i : ℕ) → Bounded (summed_to phases l i).sums
-    many_room i = rw (idle i) (summed_bounded zero (omega arith) (sym (all_none good)))
-
-    many_totals : Totals phases l (summed_to phases l zero)
-    unfolding records_refusal
-    many_totals = record {
-      number = rw (begun, many) refl;
-      sums = λ e. let z : ◌≡◌ {A = ℕ} 12 0 = rw many at e in absurd (omega (arith, z));
-      bounded = many_room zero;
-    }
-
-pub room : (phases : Phases) (l : List OwnLine) (i : ℕ) → i ≤ 64 → Bounded (summed_to phases l i).sums
-room phases l i h = by_test (is_record_count (length l)) refl
-  where
-    by_test : (b : Bool) → is_record_count (length l) ≡ b → Bounded (summed_to phases l i).sums
-    by_test true few = few_room phases l few i h
-    by_test false many = many_room phases l many i
-
-pub totals : (phases : Phases) (l : List OwnLine) → Totals phases l (summed_to phases l (records_read (length l)))
-unfolding records_read
-totals phases l = by_test (is_record_count (length l)) refl
-  where
-    by_test : (b : Bool) → is_record_count (length l) ≡ b → Totals phases l (summed_to phases l (records_read (length l)))
-    by_test true few = rw few (few_totals phases l few)
-    by_test false many = rw many (many_totals phases l many)
+  -- all of them
+  pub whole : (sums : Sums) → is_record_count (length l) ≡ true → SoFar (length l) sums → Totals phases l (Ok sums)
+  unfolding records_refusal
+  whole sums few so_far =
+      (rw (few, so_far.in-range) refl, (so_far.sums_are, room (length l) sums (leb-true (length l) 64 few) so_far))

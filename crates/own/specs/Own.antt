@@ -15,7 +15,7 @@ use Rattle.own.specs.declared.OwnLine.{OwnLine}
 
 -- "six multipliers (-13..13, the first 0, 1 or 2)"
 unfoldable pub multipliers_of : OwnLine → Multipliers
-multipliers_of l = record { tau = l.tau; s = l.s; h = l.h; p = l.p; np = l.np; ps = l.ps }
+multipliers_of l = l.multipliers
 
 -- the first multiplier names the band: 0 long period, 1 diurnal, 2 semidiurnal
 unfoldable pub band_of : ℤ → Band
@@ -24,17 +24,22 @@ band_of (negsuc n) = Semidiurnal
 
 -- "an in-phase and an out-of-phase amplitude in tenths of 10^-12"
 unfoldable pub line_of : OwnLine → Line
-line_of l = record { band = band_of l.tau; ip = in_counts l.ip; op = in_counts l.op }
+line_of l = record { band = band_of l.multipliers.tau; ip = in_counts l.ip; op = in_counts l.op }
 
 -- 13: "a value out of range"; 0, 1 and 2 lie within -13..13
 unfoldable pub in_range : OwnLine → Bool
 in_range l =
-    is_first_multiplier l.tau && is_multiplier l.s && is_multiplier l.h && is_multiplier l.p && is_multiplier l.np && is_multiplier l.ps
+    is_first_multiplier l.multipliers.tau && is_multiplier l.multipliers.s && is_multiplier l.multipliers.h
+    && is_multiplier l.multipliers.p && is_multiplier l.multipliers.np && is_multiplier l.multipliers.ps
     && is_amplitude l.ip && is_amplitude l.op
 
 -- record i of a list; past the end stands nothing
 abbrev pub none : OwnLine
-none = record { tau = pos 0; s = pos 0; h = pos 0; p = pos 0; np = pos 0; ps = pos 0; ip = pos 0; op = pos 0 }
+none = record {
+  multipliers = record { tau = pos 0; s = pos 0; h = pos 0; p = pos 0; np = pos 0; ps = pos 0 };
+  ip = pos 0;
+  op = pos 0;
+}
 
 abbrev pub record_at : List OwnLine → ℕ → OwnLine
 record_at l i = get_or l i none

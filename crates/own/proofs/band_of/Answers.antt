@@ -1,5 +1,6 @@
 -- 0, 1, and the rest.
 use borrow.Author.Tests.{ne_eqb}
+use Rattle.std.proofs.Common.{arith}
 use mathlib.Core.Path.{◌≡◌, refl, sym, ap, ◌∙◌}
 use Prim.Native.Nat.{ℕ}
 use lib.IntN.{ℤ, pos, negsuc}
@@ -19,13 +20,13 @@ unfolding band_of
 rest (pos n) a b = rw (ne_eqb n 0 (λ e. a (ap (λ (k : ℕ). of_z w32 (pos k)) e)), ne_eqb n 1 (λ e. b (ap (λ (k : ℕ). of_z w32 (pos k)) e))) refl
 rest (negsuc n) a b = refl
 
-pub returns-then-tau-eq0 : goal.returns-then-tau-eq0
+pub returns-in-0 : goal.returns-in-0
 unfolding band_of
-returns-then-tau-eq0 c = rw (told c.args.tau 0 c.ranges.tau c.if-tau-eq0.true) refl
+returns-in-0 c = let e : of_z w32 c.args.tau ≡ 0 = omega arith in rw (told c.args.tau 0 c.ranges.tau e) refl
 
-pub returns-then-tau-eq1 : goal.returns-then-tau-eq1
+pub returns-in-1 : goal.returns-in-1
 unfolding band_of
-returns-then-tau-eq1 c = rw (told c.args.tau 1 c.ranges.tau c.if-tau-eq1.true) refl
+returns-in-1 c = let e : of_z w32 c.args.tau ≡ 1 = omega arith in rw (told c.args.tau 1 c.ranges.tau e) refl
 
-pub returns-else-tau-eq1 : goal.returns-else-tau-eq1
-returns-else-tau-eq1 c = sym (rest c.args.tau c.if-tau-eq0.false c.if-tau-eq1.false)
+pub returns-in_default : goal.returns-in_default
+returns-in_default c = sym (rest c.args.tau (λ e. omega arith) (λ e. omega arith))

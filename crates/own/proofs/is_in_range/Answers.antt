@@ -19,11 +19,11 @@ pub returns : goal.returns
 unfolding in_range
 returns c =
     let l = c.args.line in
-    λ i. read-test w32 is_first_multiplier l.tau (search rules) c.is_first_multiplier.ensures i
-    && read-test w32 is_multiplier l.s (search rules) c.is_multiplier.ensures i
-    && read-test w32 is_multiplier l.h (search rules) c.is_multiplier-2.ensures i
-    && read-test w32 is_multiplier l.p (search rules) c.is_multiplier-3.ensures i
-    && read-test w32 is_multiplier l.np (search rules) c.is_multiplier-4.ensures i
-    && read-test w32 is_multiplier l.ps (search rules) c.is_multiplier-5.ensures i
+    λ i. read-test w32 is_first_multiplier l.multipliers.tau (search rules) c.is_first_multiplier.ensures i
+    && read-test w32 is_multiplier l.multipliers.s (search rules) c.is_multiplier.ensures i
+    && read-test w32 is_multiplier l.multipliers.h (search rules) c.is_multiplier-2.ensures i
+    && read-test w32 is_multiplier l.multipliers.p (search rules) c.is_multiplier-3.ensures i
+    && read-test w32 is_multiplier l.multipliers.np (search rules) c.is_multiplier-4.ensures i
+    && read-test w32 is_multiplier l.multipliers.ps (search rules) c.is_multiplier-5.ensures i
     && read-test w64 is_amplitude l.ip (search rules) c.is_amplitude.ensures i
     && read-test w64 is_amplitude l.op (search rules) c.is_amplitude-2.ensures i

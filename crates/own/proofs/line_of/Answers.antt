@@ -19,7 +19,7 @@ unfolding line_of
 returns c =
     let l = c.args.line in
     λ i. record {
-      band = (c.band_of.ensures ∙ ap band_of (back w32 l.tau (search rules))) i;
+      band = (c.band_of.ensures ∙ ap band_of (back w32 l.multipliers.tau (search rules))) i;
       ip = counts_read l.ip (ip_range l c.requires) i;
       op = counts_read l.op (op_range l c.requires) i;
     }

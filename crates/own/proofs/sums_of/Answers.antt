@@ -1,39 +1,36 @@
 -- The record that comes next stands in the list, and the sums so far leave room for it.
-use Rattle.std.proofs.Common.{◌≡◌, refl, ℕ, ◌≤◌, length, Bool, true, false, cond, leb, arith, add-one}
+use Rattle.std.proofs.Common.{◌≡◌, refl, sym, length, ◌∙◌, arith}
 use borrow.Author.Tests.{leb-true}
-use Rattle.own.specs.Inner.{records_read, summed_to}
-use Rattle.own.proofs.Totals.{room, totals}
+use Rattle.std.proofs.lemmas.Result.{err_from_is_err_and}
+use Rattle.own.specs.Own.{records_refusal}
+use Rattle.own.proofs.Totals.{none_read, room, added, ended, whole}
 use Rattle.own.proofs.sums_of.Goals as goal
 
--- of the records that are read none is past the list's end or the 64th
-few : (count : ℕ) → (records_read count ≤ count) × (records_read count ≤ 64)
-unfolding records_read
-few count = by_test (leb count 64) refl
-  where
-    by_test : (b : Bool) → leb count 64 ≡ b → (cond b count 0 ≤ count) × (cond b count 0 ≤ 64)
-    by_test true e = (omega arith, leb-true count 64 e)
-    by_test false e = (omega arith, omega arith)
+pub returns-then-not-is_record_count : goal.returns-then-not-is_record_count
+unfolding records_refusal
+returns-then-not-is_record_count c = rw (sym c.is_record_count.ensures ∙ c.if-not-is_record_count.true) refl
 
-pub loop-i-init : goal.loop-i-init
-unfolding summed_to
-loop-i-init c = (omega arith, c.begun-sum.ensures)
+pub loop-line-init : goal.loop-line-init
+loop-line-init c = none_read c.args.phases c.args.lines.now
 
-pub offset_bounds-lines-i : goal.offset_bounds-lines-i
-offset_bounds-lines-i c = let f = few (length c.args.lines.now) in record { fits = omega arith }
+pub with_record-requires : goal.with_record-requires
+with_record-requires c =
+    let few = leb-true (length c.args.lines.now) 64 (sym c.is_record_count.ensures ∙ c.if-not-is_record_count.false) in
+    room c.args.phases c.args.lines.now c.loop-line.line-index c.loop-line.sums (omega arith) c.loop-line.invariant
 
-pub bounds-lines-i : goal.bounds-lines-i
-bounds-lines-i c = let f = few (length c.args.lines.now) in omega arith
+pub returns-in_err-sums : goal.returns-in_err-sums
+returns-in_err-sums c =
+    let p = err_from_is_err_and c.from_residual.result c.from_residual.ensures.1 in
+    let why = c.in_err-sums.field-0.0 in
+    rw (p.1, p.2)
+    (ended c.args.phases c.args.lines.now c.loop-line.line-index c.loop-line.sums why (sym c.is_record_count.ensures ∙ c.if-not-is_record_count.false) c.loop-line-test.true (sym c.in_err-sums.ensures))
 
-pub with_record-sum-requires : goal.with_record-sum-requires
-with_record-sum-requires c =
-    let f = few (length c.args.lines.now) in
-    rw c.loop-i.invariant.1 (room c.args.phases c.args.lines.now c.loop-i.i (omega arith))
-
-pub loop-i-preserved : goal.loop-i-preserved
-unfolding summed_to
-loop-i-preserved c = (omega arith, rw (c.with_record-sum.ensures, c.loop-i.invariant.1, add-one) refl)
+pub loop-line-preserved : goal.loop-line-preserved
+loop-line-preserved c =
+    added c.args.phases c.args.lines.now c.loop-line.line-index c.loop-line.sums c.in_ok-sums.sums c.loop-line.invariant (sym c.in_ok-sums.ensures)
 
 pub returns : goal.returns
 returns c =
-    let e : c.loop-i.i ≡ records_read (length c.args.lines.now) = omega arith in
-    rw (c.loop-i.invariant.1, e) (totals c.args.phases c.args.lines.now)
+    let l = c.loop-line in
+    let e : l.line-index ≡ length c.args.lines.now = omega arith in
+    whole c.args.phases c.args.lines.now l.sums (sym c.is_record_count.ensures ∙ c.if-not-is_record_count.false) (rw e at l.invariant)
