@@ -18,39 +18,33 @@ pub struct Hour {
     pub sines: [i32; 49],
 }
 
-// The lines whose waves are worked out afresh.
-#[derive(Clone, Copy)]
-enum Renewed {
-    All,
-    Having(Argument),
-}
-
-// Whether the line with these multipliers is among them.
-fn is_renewed(which: Renewed, m: Multipliers) -> bool
-    ensures { result ≡ is_renewed which m }
+// Whether the line with these multipliers is among all, or among those that have an argument.
+fn is_renewed(having: Option<Argument>, m: Multipliers) -> bool
+    ensures { result ≡ is_renewed having m }
 {
-    match which {
-        Renewed::All => true,
-        Renewed::Having(argument) => arguments::multiplier_of(m, argument) != 0,
+    match having {
+        None => true,
+        Some(argument) => arguments::multiplier_of(m, argument) != 0,
     }
 }
 
-// Works the waves of lines out afresh; the other lines keep what is held of them.
-fn renew_waves(phases: Phases, which: Renewed, cosines: &mut [i32; 49], sines: &mut [i32; 49])
+// Works the waves of lines out afresh, of all or of those that have an argument; the other lines keep what is held of them.
+fn renew_waves(
+    phases: Phases,
+    having: Option<Argument>,
+    cosines: &mut [i32; 49],
+    sines: &mut [i32; 49],
+)
     requires { (length cosines.old ≡ 49) × (length sines.old ≡ 49) }
-    ensures { (cosines.new ≡ renewed (is_renewed which) cos phases cosines.old) × (sines.new ≡ renewed (is_renewed which) sin phases sines.old) }
+    ensures { (cosines.new ≡ renewed (is_renewed having) cos phases cosines.old) × (sines.new ≡ renewed (is_renewed having) sin phases sines.old) }
 {
-    let tables = lines::printed_tables();
-    let digits = tables.digits;
-    let mut i = 0;
-    while i < 49 {
-        let m = lines::multipliers_by(digits[i]);
-        if is_renewed(which, m) {
+    for i in 0..49 {
+        let m = lines::multipliers_at(i);
+        if is_renewed(having, m) {
             let wave = wave::wave_of(arguments::phase_of(m, phases));
             cosines[i] = wave.cosine as i32;
             sines[i] = wave.sine as i32;
         }
-        i += 1;
     }
 }
 
@@ -60,7 +54,7 @@ pub fn set_to(phases: Phases) -> Hour
 {
     let mut cosines = [0i32; 49];
     let mut sines = [0i32; 49];
-    renew_waves(phases, Renewed::All, &mut cosines, &mut sines);
+    renew_waves(phases, None, &mut cosines, &mut sines);
     Hour {
         phases,
         cosines,
@@ -90,7 +84,7 @@ pub fn moved(hour: Hour, argument: Argument, amount: i32) -> Hour
     let phases = arguments::moved_phases(before, argument, amount);
     let mut cosines = hour.cosines;
     let mut sines = hour.sines;
-    renew_waves(phases, Renewed::Having(argument), &mut cosines, &mut sines);
+    renew_waves(phases, Some(argument), &mut cosines, &mut sines);
     Hour {
         phases,
         cosines,

@@ -1,12 +1,12 @@
 -- The printed lines are light, and the waves kept of them fit.
 use mathlib.Core.Bool.{Bool, true, false, cond}
-use mathlib.Core.Path.{◌≡◌, ◌∙◌}
+use mathlib.Core.Path.{◌≡◌}
 use Prim.Native.Nat.{ℕ, ◌^◌, ◌≤◌, ◌<◌}
 use native.Mathlib.Omega.{arith}
 use lib.IntN.{ℤ, pos, negsuc, nat_abs}
 use lib.Signed.{mag}
 use mir.Syntax.{w32, w64}
-use mir.Val.{SFits, to_z, of_z}
+use mir.Val.{to_z, of_z}
 use mir.Facts.{to_z-of_z}
 use Rattle.arguments.specs.declared.Phases.{Phases}
 use Rattle.bands.specs.Inner.{Light, Small}
@@ -35,11 +35,8 @@ module _ (z : ℤ) (g : mag z < 2 ^ 31) where
       mag_size (pos n) l = omega arith
       mag_size (negsuc n) l = omega arith
 
-  pub wave_fits : SFits w64 (to_z w32 (of_z w32 z))
-  wave_fits = rw (back w32 z g) (fits_abs w64 z (omega (arith, wave-small)))
-
-  pub wave-read : to_z w64 (of_z w64 (to_z w32 (of_z w32 z))) ≡ z
-  wave-read = to_z-of_z wave_fits ∙ back w32 z g
+  pub wave-read : {x : ℤ} → x ≡ to_z w32 (of_z w32 z) → to_z w64 (of_z w64 x) ≡ z
+  wave-read e = rw (e, back w32 z g) (to_z-of_z (fits_abs w64 z (omega (arith, wave-small))))
 
 -- a line that is not named is no heavier than the printed one
 pub selected_light : (love : LoveModel) (selection i : ℕ) → Light 472000 (selected selection (printed_line love) i)

@@ -5,7 +5,6 @@
 
 ghost use Rattle.std.specs.Prelude.{◌≡◌, ◌+◌, ◌<◌};
 ghost use Rattle.bands.specs.Inner.{sums_of, Bounded, Small};
-ghost use Rattle.lines.specs.Inner.{firsts, seconds};
 ghost use Rattle.selection.specs.Selection.{names as names_line};
 ghost use Rattle.step_two.specs.Inner.{up_to, Running};
 ghost use Rattle.step_two.specs.StepTwo.{kept_corrections};
@@ -27,59 +26,37 @@ fn is_named(selection: u64, i: usize) -> bool
     }
 }
 
-// The five sums with those of line i added, if a selection names it. Bits above 48 stand for nothing.
-fn with_printed(
-    sums: Sums,
-    first: &[i16; 49],
-    second: &[i16; 49],
-    cosines: &[i32; 49],
-    sines: &[i32; 49],
-    love: LoveModel,
-    selection: u64,
-    i: usize,
-) -> Sums
-    requires { (i < 49) × ((first.now ≡ firsts) × ((second.now ≡ seconds) × Running love selection cosines.now sines.now i sums)) }
-    ensures { Running love selection cosines.now sines.now (i + 1) result }
+// The five sums with those of line i added, over the waves that an hour holds, if a selection names it. Bits above 48 stand for nothing.
+fn with_printed(sums: Sums, hour: &Hour, love: LoveModel, selection: u64, i: usize) -> Sums
+    requires { (i < 49) × Running love selection hour.now.cosines hour.now.sines i sums }
+    ensures { Running love selection hour.now.cosines hour.now.sines (i + 1) result }
 {
     if is_named(selection, i) {
-        let line = lines::printed_line(first, second, love, i);
-        bands::with_line(sums, line, cosines[i] as i64, sines[i] as i64)
+        let line = lines::printed_line(love, i);
+        bands::with_line(
+            sums,
+            line,
+            i64::from(hour.cosines[i]),
+            i64::from(hour.sines[i]),
+        )
     } else {
         sums
     }
 }
 
-// The five sums of the lines that a selection names, over given waves. A loop goes through each band, whose rule the compiler then chooses once.
-fn sums_of<'a>(
-    cosines: &'a [i32; 49],
-    sines: &'a [i32; 49],
-    love: LoveModel,
-    selection: u64,
-) -> Sums
-    ensures { (result ≡ sums_of (up_to love selection cosines.now sines.now 49)) × Bounded result }
+// The five sums of the lines that a selection names. A loop goes through each band, whose rule the compiler then chooses once.
+fn sums_of(hour: &Hour, love: LoveModel, selection: u64) -> Sums
+    ensures { (result ≡ sums_of (up_to love selection hour.now.cosines hour.now.sines 49)) × Bounded result }
 {
-    let tables = lines::printed_tables();
-    let first = tables.first;
-    let second = tables.second;
-    let mut sums = Sums {
-        c20: 0,
-        c21: 0,
-        s21: 0,
-        c22: 0,
-        s22: 0,
-    };
-    let mut i = 0;
-    while i < 26 {
-        sums = with_printed(sums, &first, &second, cosines, sines, love, selection, i);
-        i += 1;
+    let mut sums = bands::NOTHING;
+    for i in 0..26 {
+        sums = with_printed(sums, hour, love, selection, i);
     }
-    while i < 47 {
-        sums = with_printed(sums, &first, &second, cosines, sines, love, selection, i);
-        i += 1;
+    for i in 26..47 {
+        sums = with_printed(sums, hour, love, selection, i);
     }
-    while i < 49 {
-        sums = with_printed(sums, &first, &second, cosines, sines, love, selection, i);
-        i += 1;
+    for i in 47..49 {
+        sums = with_printed(sums, hour, love, selection, i);
     }
     sums
 }
@@ -88,5 +65,5 @@ fn sums_of<'a>(
 pub fn corrections_of(hour: Hour, love: LoveModel, selection: u64) -> Corrections
     ensures { (result ≡ kept_corrections hour love selection) × Small result }
 {
-    bands::rounded_of(sums_of(&hour.cosines, &hour.sines, love, selection))
+    bands::rounded_of(sums_of(&hour, love, selection))
 }

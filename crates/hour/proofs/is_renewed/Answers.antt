@@ -17,8 +17,8 @@ not-zero (pos zero) h = refl
 not-zero (pos (suc n)) h = rw (ne_eqb (suc n) 0 (λ e. omega arith), lt-ltb 0 (suc n) (omega arith)) refl
 not-zero (negsuc n) h = let l = h.sfits in rw (ne_eqb (4294967296 - suc n) 0 (λ e. omega arith), lt-ltb 0 (suc n) (omega arith)) refl
 
-pub returns-in-Having : goal.returns-in-Having
+pub returns-in-Some : goal.returns-in-Some
 unfolding has_argument
-returns-in-Having c =
+returns-in-Some c =
     let f : SFits w32 c.multiplier_of.result = search rules in
-    rw c.in-Having.is (not-zero c.multiplier_of.result f ∙ ap (λ (z : ℤ). ltb 0 (nat_abs z)) c.multiplier_of.ensures)
+    rw c.in-Some.is (not-zero c.multiplier_of.result f ∙ ap (λ (z : ℤ). ltb 0 (nat_abs z)) c.multiplier_of.ensures)

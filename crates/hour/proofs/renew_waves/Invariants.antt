@@ -1,5 +1,4 @@
 -- Each turn renews one line more, or leaves it.
-use Prim.Native.Nat.{◌-◌, ◌≤◌}
 use Rattle.wave.specs.Wave.{sin, cos}
 use Rattle.hour.specs.Inner.{is_renewed}
 use Rattle.hour.proofs.Kept.{Upto}
@@ -7,7 +6,4 @@ use Rattle.hour.proofs.renew_waves.Given as goal
 
 abbrev pub invariant-loop-i : goal.invariant-loop-i
 invariant-loop-i l =
-    (l.i ≤ 49) × Upto (is_renewed l.which) cos l.phases l.initial.cosines l.cosines l.i × Upto (is_renewed l.which) sin l.phases l.initial.sines l.sines l.i
-
-abbrev pub decreases-loop-i : goal.decreases-loop-i
-decreases-loop-i l = 49 - l.i
+    Upto (is_renewed l.having) cos l.phases l.initial.cosines l.cosines l.i × Upto (is_renewed l.having) sin l.phases l.initial.sines l.sines l.i

@@ -15,14 +15,14 @@ use Rattle.step_two.proofs.sums_of.Goals as goal
 
 pub loop-i-init : goal.loop-i-init
 unfolding sums_of sum_of sum_to
-loop-i-init c = (omega arith, record { sums_are = refl; most = λ k. omega arith })
+loop-i-init c = record { sums_are = refl; most = λ k. omega arith }
 
 pub returns : goal.returns
 returns c =
     let l = c.loop-i-3 in
     let a = c.args in
     let e : l.i ≡ 49 = omega arith in
-    let W : ℕ → Sums = λ n. sums_of (up_to a.love a.selection a.cosines.now a.sines.now n) in (
-      l.invariant.1.sums_are ∙ ap W e,
-      bounded (selected a.selection (printed_line a.love)) (kept a.cosines.now) (kept a.sines.now) 472000 l.i (omega arith) (omega (arith, l.invariant.0)) l.invariant.1.sums_are l.invariant.1.most,
+    let W : ℕ → Sums = λ n. sums_of (up_to a.love a.selection a.hour.now.cosines a.hour.now.sines n) in (
+      l.invariant.sums_are ∙ ap W e,
+      bounded (selected a.selection (printed_line a.love)) (kept a.hour.now.cosines) (kept a.hour.now.sines) 472000 l.i (omega arith) (omega arith) l.invariant.sums_are l.invariant.most,
     )
