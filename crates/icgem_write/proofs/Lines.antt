@@ -17,7 +17,7 @@ use Rattle.text.specs.Text.{ascii, decimal, fixed_point, sign}
 use Rattle.text.proofs.Puts.{puts_then, puts_none}
 use Rattle.text.proofs.Columns.{fixed_length}
 use Rattle.text.proofs.Decimals.{digits_most}
-use Rattle.icgem_write.specs.Inner.{PutLines, PutsLines, Has}
+use Rattle.icgem_write.specs.Inner.{PutLines, PutsLines}
 use Rattle.icgem_write.specs.Written.{joined, coefficient}
 
 -- a length of 64 bits in millimetres has 17 digits before the dot at most
@@ -95,6 +95,3 @@ below_size n = omega arith
 pub below_most : (n k : ℕ) → k ≤ n → below (k + 1) ≤ size n
 unfolding place
 below_most n k h = omega (arith, place_below n k k h (omega arith))
-
-pub has_below : {n : ℕ} (k : ℕ) {l : List ℤ} → k ≤ n → Has n l → Has k l
-has_below {n} k {l} h has = record { long = omega (arith, below_most n k h, below_size k, has.long); range = has.range }

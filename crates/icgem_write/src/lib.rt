@@ -52,32 +52,6 @@ fn put_title(page: &mut Page)
     put_entry(page, "modelname", "surfgimlet");
 }
 
-// Puts the constant, the radius, given in millimetres, in metres, and the degree.
-#[tactic(auto, using(text::proofs::Decimals::word_most))]
-fn put_measures(page: &mut Page, n: u32, constant: u64, radius: u64)
-    requires { HasRoom page.old (54 * 3) }
-    ensures { PutsLines 3 page.old (measure_lines n constant radius) page.new }
-{
-    let metres = Fixed {
-        negative: false,
-        size: radius,
-        decimals: 3,
-    };
-    put_entry(page, "earth_gravity_constant", constant);
-    put_entry(page, "radius", metres);
-    put_entry(page, "max_degree", u64::from(n));
-}
-
-// Puts how the coefficients are to be taken.
-fn put_manner(page: &mut Page, system: PermanentSystem)
-    requires { HasRoom page.old (54 * 3) }
-    ensures { PutsLines 3 page.old (manner_lines system) page.new }
-{
-    put_entry(page, "errors", "no");
-    put_entry(page, "norm", "fully_normalized");
-    put_entry(page, "tide_system", system_name(system));
-}
-
 // Puts the line that ends the header.
 #[tactic(auto, unfolding(crate::specs::Written::closing_line, text::specs::Text::ascii))]
 fn put_closing(page: &mut Page)
@@ -85,17 +59,6 @@ fn put_closing(page: &mut Page)
     ensures { PutsLines 1 page.old closing_line page.new }
 {
     page.put_word("end_of_head =========================================\n");
-}
-
-// Puts the nine lines of the header.
-fn put_header(page: &mut Page, n: u32, constant: u64, radius: u64, system: PermanentSystem)
-    requires { HasRoom page.old (54 * 9) }
-    ensures { PutsLines 9 page.old (header n constant radius system) page.new }
-{
-    put_title(page);
-    put_measures(page, n, constant, radius);
-    put_manner(page, system);
-    put_closing(page);
 }
 
 // A count with its 15 decimals.
@@ -127,18 +90,58 @@ fn put_place(page: &mut Page, n: u32, m: u32, c: i64, s: i64)
     page.put_byte(b'\n');
 }
 
-// The coefficients of every degree up to one.
+// A field, and what its file says of it. The public calls keep these as arguments, as C gives them.
 #[derive(Clone, Copy)]
-struct Coefficients<'a> {
+struct FieldFile<'a> {
     degree: u32,
     c: &'a [i64],
     s: &'a [i64],
+    constant: u64,
+    radius: u64,
+    system: PermanentSystem,
     ghost largest: { degree ≤ 60 },
     ghost has_c: { Has degree c.now },
     ghost has_s: { Has degree s.now },
 }
 
-impl Coefficients<'_> {
+impl FieldFile<'_> {
+    // Puts the constant, the radius, held in millimetres, in metres, and the degree.
+    #[tactic(auto, using(text::proofs::Decimals::word_most))]
+    fn put_measures(&self, page: &mut Page)
+        requires { HasRoom page.old (54 * 3) }
+        ensures { PutsLines 3 page.old (measure_lines self.now.degree self.now.constant self.now.radius) page.new }
+    {
+        let metres = Fixed {
+            negative: false,
+            size: self.radius,
+            decimals: 3,
+        };
+        put_entry(page, "earth_gravity_constant", self.constant);
+        put_entry(page, "radius", metres);
+        put_entry(page, "max_degree", u64::from(self.degree));
+    }
+
+    // Puts how the coefficients are to be taken.
+    fn put_manner(&self, page: &mut Page)
+        requires { HasRoom page.old (54 * 3) }
+        ensures { PutsLines 3 page.old (manner_lines self.now.system) page.new }
+    {
+        put_entry(page, "errors", "no");
+        put_entry(page, "norm", "fully_normalized");
+        put_entry(page, "tide_system", system_name(self.system));
+    }
+
+    // Puts the nine lines of the header.
+    fn put_header(&self, page: &mut Page)
+        requires { HasRoom page.old (54 * 9) }
+        ensures { PutsLines 9 page.old (header self.now.degree self.now.constant self.now.radius self.now.system) page.new }
+    {
+        put_title(page);
+        self.put_measures(page);
+        self.put_manner(page);
+        put_closing(page);
+    }
+
     // Puts the lines of a degree.
     fn put_degree(&self, page: &mut Page, n: u32)
         requires room { HasRoom page.old (54 * (n + 1)) }
@@ -161,21 +164,15 @@ impl Coefficients<'_> {
             self.put_degree(page, n);
         }
     }
-}
 
-// Puts the header and the lines of all degrees.
-fn put_text(
-    page: &mut Page,
-    coefficients: &Coefficients,
-    constant: u64,
-    radius: u64,
-    system: PermanentSystem,
-)
-    requires { HasRoom page.old (54 * (9 + size coefficients.now.degree)) }
-    ensures { PutsLines (9 + size coefficients.now.degree) page.old (file_text coefficients.now.degree coefficients.now.c.now coefficients.now.s.now constant radius system) page.new }
-{
-    put_header(page, coefficients.degree, constant, radius, system);
-    coefficients.put_degrees(page);
+    // Puts the header and the lines of all degrees.
+    fn put_text(&self, page: &mut Page)
+        requires { HasRoom page.old (54 * (9 + size self.now.degree)) }
+        ensures { PutsLines (9 + size self.now.degree) page.old (file_text self.now.degree self.now.c.now self.now.s.now self.now.constant self.now.radius self.now.system) page.new }
+    {
+        self.put_header(page);
+        self.put_degrees(page);
+    }
 }
 
 // Puts the text of a field of degree n at the buffer's start.
@@ -194,14 +191,16 @@ pub fn put_field(
     requires has_s { Has n s.now }
     ensures { PutLines (9 + size n) out.old 0 (file_text n c.now s.now constant radius system) out.new result }
 {
-    let mut page = Page::new(out);
-    put_text(
-        &mut page,
-        &Coefficients { degree: n, c, s },
+    let file = FieldFile {
+        degree: n,
+        c,
+        s,
         constant,
         radius,
         system,
-    );
+    };
+    let mut page = Page::new(out);
+    file.put_text(&mut page);
     page.at
 }
 

@@ -53,6 +53,7 @@ fn put_models(page: &mut Page, phases: Phases)
 }
 
 // The six phases of the first 24 bytes.
+#[tactic(auto, unfolding(crate::specs::Listing::phases_of))]
 fn phases_of(input: &[u8]) -> Phases
     requires { 24 ≤ length input.now }
     ensures { result ≡ phases_of input.now }

@@ -19,17 +19,17 @@ sets_paste : (l text : List ℕ) (at n : ℕ) → at + n ≤ length l → n ≡ 
 sets_paste l text at n room long = rw (long, take_all (length text) text (omega arith)) (sets-eq text l at (omega arith))
 
 -- a text after a text is their joint text
-pub put_then : {l a l' b l'' : List ℕ} {at n n' : ℕ} → Put l at a l' n → Put l' n b l'' n' → Put l at (a ++ b) l'' n'
+put_then : {l a l' b l'' : List ℕ} {at n n' : ℕ} → Put l at a l' n → Put l' n b l'' n' → Put l at (a ++ b) l'' n'
 put_then {l} {a} {l'} {b} {l''} {at} {n} {n'} p q = record {
   next_is = omega (arith, p.next_is, q.next_is, length-append a b);
   bytes_are = q.bytes_are ∙ ap (λ (k : ℕ). sets l' k b) p.next_is ∙ ap (λ (m : List ℕ). sets m (at + length a) b) p.bytes_are ∙ sets_more l a b at;
 }
 
-pub put_length : {l a l' : List ℕ} {at n : ℕ} → Put l at a l' n → length l' ≡ length l
+put_length : {l a l' : List ℕ} {at n : ℕ} → Put l at a l' n → length l' ≡ length l
 put_length {l} {a} {l'} {at} {n} p = ap length p.bytes_are ∙ length-sets l at a
 
 -- a part of a buffer is overwritten by a text of its length
-pub put_part : (l part text : List ℕ) (at n : ℕ) → at + n ≤ length l → n ≡ length text → part ≡ text → Put l at text (put_mid at (at + n - at) l part) (at + n)
+put_part : (l part text : List ℕ) (at n : ℕ) → at + n ≤ length l → n ≡ length text → part ≡ text → Put l at text (put_mid at (at + n - at) l part) (at + n)
 put_part l part text at n room long e = record {
   next_is = omega (arith, long);
   bytes_are = put_mid-paste at (at + n - at) l part text n e (omega arith) long ∙ sym (sets_paste l text at n room long);

@@ -64,6 +64,7 @@ impl<'a> Page<'a> {
     }
 
     // Puts a minus sign, or nothing.
+    #[tactic(auto, using(crate::proofs::Puts::puts_none), unfolding(crate::specs::Text::sign, crate::specs::Text::ascii))]
     pub fn put_sign(&mut self, negative: bool)
         requires { HasRoom self.old (length (sign negative)) }
         ensures { Puts self.old (sign negative) self.new }

@@ -3,7 +3,7 @@ use mathlib.Core.Path.{◌≡◌, ap, ◌∙◌}
 use Prim.Native.Nat.{◌+◌}
 use native.Mathlib.Omega.{arith}
 use Rattle.icgem_write.proofs.Lines.{no_lines, more_lines, last_lines, below, below_none, below_next, below_size, below_most}
-use Rattle.icgem_write.proofs.Coefficients.put_degrees.Goals as goal
+use Rattle.icgem_write.proofs.FieldFile.put_degrees.Goals as goal
 
 pub loop-n-init : goal.loop-n-init
 loop-n-init c = rw below_none (no_lines _ _)

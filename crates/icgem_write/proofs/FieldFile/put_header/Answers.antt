@@ -1,7 +1,7 @@
 -- Title, measures, manner and the closing line.
 use Rattle.icgem_write.specs.Written.{header}
 use Rattle.icgem_write.proofs.Lines.{lines_then}
-use Rattle.icgem_write.proofs.put_header.Goals as goal
+use Rattle.icgem_write.proofs.FieldFile.put_header.Goals as goal
 
 pub returns : goal.returns
 unfolding header

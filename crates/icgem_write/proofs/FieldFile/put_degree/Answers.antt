@@ -15,7 +15,7 @@ use Rattle.field.proofs.Entries.{entry_in_range}
 use Rattle.icgem_write.specs.Inner.{Has}
 use Rattle.icgem_write.specs.Written.{degree_lines}
 use Rattle.icgem_write.proofs.Lines.{no_lines, more_lines, last_lines, place_is}
-use Rattle.icgem_write.proofs.Coefficients.put_degree.Goals as goal
+use Rattle.icgem_write.proofs.FieldFile.put_degree.Goals as goal
 
 -- a place of the degree stands in a list that has its entries
 inside : {degree : ℕ} {l : List ℤ} (n m : ℕ) → n ≤ degree → m ≤ n → Has degree l → n * (n + 1) / 2 + m < length l

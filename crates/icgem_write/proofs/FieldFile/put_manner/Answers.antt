@@ -4,10 +4,10 @@ use Rattle.text.specs.Text.{ascii}
 use Rattle.icgem_write.specs.Written.{manner_lines}
 use Rattle.icgem_write.proofs.Lines.{lines_then}
 use Rattle.icgem_write.proofs.Lengths.{name_length}
-use Rattle.icgem_write.proofs.put_manner.Goals as goal
+use Rattle.icgem_write.proofs.FieldFile.put_manner.Goals as goal
 
 pub put_entry-requires-3-clause-within : goal.put_entry-requires-3-clause-within
-put_entry-requires-3-clause-within c = rw c.system_name.ensures (omega (arith, name_length c.args.system))
+put_entry-requires-3-clause-within c = rw c.system_name.ensures (omega (arith, name_length c.args.self.now.system))
 
 pub returns : goal.returns
 unfolding manner_lines ascii

@@ -4,7 +4,7 @@ use lib.ListN.{get_or}
 use Rattle.field.specs.Field.{place}
 use Rattle.icgem_write.specs.Inner.{PutsLines}
 use Rattle.icgem_write.specs.Written.{joined, place_line}
-use Rattle.icgem_write.proofs.Coefficients.put_degree.Given as goal
+use Rattle.icgem_write.proofs.FieldFile.put_degree.Given as goal
 
 abbrev pub invariant-loop-m : goal.invariant-loop-m
 invariant-loop-m l =
