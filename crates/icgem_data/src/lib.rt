@@ -149,7 +149,7 @@ pub fn line_of(line: &[u8], degree: &[u8]) -> Option<Coefficients>
     }
 }
 
-// Sets an entry; one past the list's end is none.
+// Sets an entry; one past the list's end is none. Tried: `get_mut`; the proof did not close, since nothing ties the list behind the call to the entry.
 fn store(list: &mut [i64], at: usize, value: i64)
     ensures { list.new ≡ set list.old at value }
 {
@@ -165,7 +165,7 @@ pub struct Lines {
     pub count: usize,
 }
 
-// One line more, which starts at a place of its text.
+// One line more, which starts at a place of its text. The lists go one by one, as read_lines is lent them.
 fn keep_line(
     line: &[u8],
     at: usize,
@@ -225,6 +225,7 @@ pub fn read_lines(
         count: 0,
     };
     let mut at = from;
+    // A line's end gives the next one's place, and `split` gives no places.
     while at < text.len() {
         let start = at;
         let end = icgem_words::line_end(text, at);
