@@ -37,22 +37,22 @@ fn degree_of(word: &[u8]) -> u32
 
 // The coefficient lines: 17, 18, 19, and their counts in two lists.
 fn read_data(
-    data: &[u8],
+    text: &[u8],
     degree: &[u8],
     c: &mut [i64; ENTRIES],
     s: &mut [i64; ENTRIES],
 ) -> Result<(), Refusal>
-    requires data_short { length data.now ≤ 131072 }
+    requires text_short { length text.now ≤ 131072 }
     requires degree_whole { is_whole degree.now ≡ true }
-    ensures { DataRead (value_of degree.now) (worded data.now) c.old s.old result c.new s.new }
+    ensures { DataRead (value_of degree.now) (worded text.now) c.old s.old result c.new s.new }
 {
     let mut starts = [0u32; LINES];
     let mut spare = [0u32; LINES];
-    let lines = icgem_data::read_lines(data, 0, degree, &mut starts, c, s);
+    let lines = icgem_data::read_lines(text, 0, degree, &mut starts, c, s);
     if !lines.ok {
         return Err(Refusal::FileForm);
     }
-    if icgem_repeats::repeats(data, &mut starts[..lines.count], &mut spare) {
+    if icgem_repeats::repeats(text, &mut starts[..lines.count], &mut spare) {
         return Err(Refusal::TwinPlaces);
     }
     if limits::is_degree(degree_of(degree)) && lines.inside {

@@ -10,7 +10,7 @@ pub returns-then-not-lines : goal.returns-then-not-lines
 returns-then-not-lines c = unformed c.read_lines-lines.ensures (not-true _ c.if-not-lines.true)
 
 pub repeats-requires : goal.repeats-requires
-repeats-requires c = lent c.read_lines-lines.ensures (not-false _ c.if-not-lines.false) c.requires.data_short (search rules) (search rules)
+repeats-requires c = lent c.read_lines-lines.ensures (not-false _ c.if-not-lines.false) c.requires.text_short (search rules) (search rules)
 
 pub returns-then-repeats : goal.returns-then-repeats
 returns-then-repeats c = twice c.read_lines-lines.ensures (not-false _ c.if-not-lines.false) c.repeats.ensures c.if-repeats.true
