@@ -1,7 +1,7 @@
 """Holds docs/PROMISES.md to the files: each name in its tables exists, and each must-fail edit is cited there; and docs/DECISIONS.md names each edit
 that changes a definition and not the code.
 
-A name stands in backquotes: `x.specs.Y`, `x.proofs.Y` and `x.specs.Y.name`; `x::f`; `x/slip`. A bare name belongs to what stands before it in
+A name stands in backquotes: `x.specs.Y`, `x.proofs.Y` and `x.specs.Y.name`; `x::f`, `x::T` of a type and `x::T::f` of its method; `x/slip`. A bare name belongs to what stands before it in
 its cell: to the module, the crate or the edit's crate named last. Where the cell names none, it is a crate or is declared in some specs file.
 `..end` stands for every name with that end. Exits 1 with a line for each name that is not there and each edit that is not cited.
 """
@@ -17,6 +17,7 @@ WORDS = {'requires', 'ensures'}      # of the language
 NAME = r"[^\s:(){}.;=]+"
 DECLARED = re.compile(rf'^\s*(?:(?:unfoldable |pub )*(?:abbrev|record|data) (?:pub )?({NAME})|(?:unfoldable |pub )*({NAME}(?: {NAME})*) :\s)', re.M)
 FUNCTION = re.compile(r'\bfn (\w+)')
+TYPE = re.compile(r'^(?:pub )?(?:struct|enum|trait) (\w+)', re.M)
 
 
 def declared(path):
@@ -25,7 +26,9 @@ def declared(path):
 
 
 def functions(crate):
-    return {name for path in (CRATES / crate / 'src').rglob('*.rt') for name in FUNCTION.findall(path.read_text(encoding='utf-8'))}
+    """The functions of a crate, its methods and types among them."""
+    texts = [path.read_text(encoding='utf-8') for path in (CRATES / crate / 'src').rglob('*.rt')]
+    return {name for text in texts for pattern in (FUNCTION, TYPE) for name in pattern.findall(text)}
 
 
 def edits():
@@ -67,10 +70,10 @@ class Cell:
             self.edit_crate = name.split('/')[0]
             self.cited.add(name)
             return name in self.all_edits
-        if re.fullmatch(r'\w+::\w+', name):
-            crate, function = name.split('::')
+        if re.fullmatch(r'\w+(::\w+){1,2}', name):
+            crate, *parts = name.split('::')
             self.crate = crate
-            return (CRATES / crate).is_dir() and function in functions(crate)
+            return (CRATES / crate).is_dir() and functions(crate).issuperset(parts)
         if re.match(r'\w+\.(specs|proofs)\b', name):
             there = module(name)
             if there is None:

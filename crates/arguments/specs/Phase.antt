@@ -3,17 +3,10 @@ use Rattle.std.specs.Prelude.{List, [], ◌∷◌, get_or, ℕ, ◌^◌, ℤ, po
 use Rattle.std.specs.Int.Signed.{shr_z}
 use Rattle.arguments.specs.declared.Argument.{Argument}
 use Rattle.arguments.specs.declared.Argument.TheVariants.{Tau, S, H, P, Np, Ps}
-use Rattle.arguments.specs.declared.Arguments.{Arguments}
+use Rattle.arguments.specs.declared.Multipliers.{Multipliers}
+use Rattle.arguments.specs.declared.Phases.{Phases}
 use Rattle.choices.specs.Numbers.{chosen}
 use Rattle.refusals.specs.Told.{Told}
-
--- the arguments as phases
-abbrev pub Phases : Type 0
-Phases = Arguments ℕ
-
--- a line's multipliers of the arguments
-abbrev pub Multipliers : Type 0
-Multipliers = Arguments ℤ
 
 -- six multipliers as a list, in the order of the arguments
 abbrev pub listed : Multipliers → List ℤ

@@ -38,23 +38,29 @@ impl TryFrom<u32> for Argument {
     }
 }
 
-// A value of each argument; C passes it as it stands.
+// The arguments as phases, a turn being 2^32; C passes them as they stand. A type of its own beside `Multipliers`, since C's calls take no generic struct.
 #[repr(C)]
 #[derive(Clone, Copy, Debug, PartialEq, Eq)]
-pub struct Arguments<T> {
-    pub tau: T,
-    pub s: T,
-    pub h: T,
-    pub p: T,
-    pub np: T,
-    pub ps: T,
+pub struct Phases {
+    pub tau: u32,
+    pub s: u32,
+    pub h: u32,
+    pub p: u32,
+    pub np: u32,
+    pub ps: u32,
 }
 
-// The arguments as phases, a turn being 2^32.
-pub type Phases = Arguments<u32>;
-
-// A line's multipliers of the arguments.
-pub type Multipliers = Arguments<i32>;
+// A line's multipliers of the arguments; C passes those of a line of its own as they stand.
+#[repr(C)]
+#[derive(Clone, Copy, Debug, PartialEq, Eq)]
+pub struct Multipliers {
+    pub tau: i32,
+    pub s: i32,
+    pub h: i32,
+    pub p: i32,
+    pub np: i32,
+    pub ps: i32,
+}
 
 // In the order of the arguments.
 impl From<[i32; 6]> for Multipliers {
@@ -62,7 +68,7 @@ impl From<[i32; 6]> for Multipliers {
 
     fn from(list: [i32; 6]) -> Multipliers {
         let [tau, s, h, p, np, ps] = list;
-        Arguments {
+        Multipliers {
             tau,
             s,
             h,

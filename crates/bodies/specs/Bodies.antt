@@ -4,14 +4,11 @@ use Rattle.std.specs.Float.Ieee.{le}
 use Rattle.doubles.specs.Doubles.{◌*·◌, ◌/·◌, ◌+·◌, ◌-·◌, decimal, minus_decimal, number, finite}
 use Rattle.limits.specs.Limits.{is_distance, is_ratio}
 use Rattle.refusals.specs.Told.{Told}
-use Rattle.refusals.specs.Numbers.{refusal_number}
 use Rattle.refusals.specs.Told.Told.{accepted, refused}
 use Rattle.bodies.specs.declared.Place.{Place}
 use Rattle.bodies.specs.declared.Place.TheVariants.{Rectangular, Directional}
 use Rattle.bodies.specs.declared.Body.{Body}
 use Rattle.bodies.specs.declared.Direction.{Direction}
-use Rattle.bodies.specs.declared.Sight.{Sight}
-use Rattle.bodies.specs.declared.Sight.TheVariants.{At, Refused}
 
 -- "rectangular x, y, z in metres with the distance, or a direction u, v, w with the distance; for the first u = x/r, v = y/r, w = z/r"
 abbrev pub direction_of : Place → Direction
@@ -51,8 +48,3 @@ unfoldable pub sighted : Body → Told Direction
 sighted b =
     let d = direction_of b.place in
     cond (finite_body b) (cond (in_reach d.r b.ratio) (cond (of_length_one d) (accepted d) (refused 5)) (refused 4)) (refused 3)
-
--- the number and the value of each answer
-abbrev pub tells : Sight → Told Direction
-tells (At d) = accepted d
-tells (Refused r) = refused (refusal_number r)

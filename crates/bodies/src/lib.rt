@@ -3,9 +3,9 @@
 #![tactic(auto)]
 
 ghost use Rattle.std.specs.Prelude.{◌≡◌};
-ghost use Rattle.bodies.specs.Bodies.{all_finite, finite_place, finite_body, in_reach, direction_of, of_length_one, sighted, tells};
+ghost use Rattle.bodies.specs.Bodies.{all_finite, finite_place, finite_body, in_reach, direction_of, of_length_one, sighted};
+ghost use Rattle.refusals.specs.Numbers.{tells};
 
-use doubles::is_finite;
 use limits::{is_distance, is_ratio};
 use refusals::Refusal;
 
@@ -35,30 +35,26 @@ pub struct Direction {
     pub r: f64,
 }
 
-#[derive(Clone, Copy)]
-pub enum Sight {
-    At(Direction),
-    Refused(Refusal),
-}
+impl From<Place> for Direction {
+    ghost from_gives = { λ place direction. direction ≡ direction_of place };
 
-pub fn direction_of(place: Place) -> Direction
-    ensures { result ≡ direction_of place }
-{
-    match place {
-        Place::Rectangular(x, y, z, r) => Direction {
-            u: x / r,
-            v: y / r,
-            w: z / r,
-            r,
-        },
-        Place::Directional(u, v, w, r) => Direction { u, v, w, r },
+    fn from(place: Place) -> Direction {
+        match place {
+            Place::Rectangular(x, y, z, r) => Direction {
+                u: x / r,
+                v: y / r,
+                w: z / r,
+                r,
+            },
+            Place::Directional(u, v, w, r) => Direction { u, v, w, r },
+        }
     }
 }
 
 fn are_finite(a: f64, b: f64, c: f64, d: f64) -> bool
     ensures { result ≡ all_finite a b c d }
 {
-    is_finite(a) & is_finite(b) & is_finite(c) & is_finite(d)
+    a.is_finite() & b.is_finite() & c.is_finite() & d.is_finite()
 }
 
 fn is_finite_place(place: Place) -> bool
@@ -70,14 +66,14 @@ fn is_finite_place(place: Place) -> bool
     }
 }
 
+#[tactic(auto, unfolding(crate::specs::Bodies::finite_body))]
 fn is_finite_body(body: Body) -> bool
     ensures { result ≡ finite_body body }
 {
-    let place = body.place;
-    let ratio = body.ratio;
-    is_finite_place(place) & is_finite(ratio)
+    is_finite_place(body.place) & body.ratio.is_finite()
 }
 
+#[tactic(auto, unfolding(crate::specs::Bodies::in_reach))]
 fn is_in_reach(r: f64, ratio: f64) -> bool
     ensures { result ≡ in_reach r ratio }
 {
@@ -88,26 +84,24 @@ fn is_of_length_one(d: Direction) -> bool
     ensures { result ≡ of_length_one d }
 {
     let excess = ((d.u * d.u + d.v * d.v) + d.w * d.w) - 1.0;
-    (-TOLERANCE <= excess) & (excess <= TOLERANCE)
+    (-TOLERANCE..=TOLERANCE).contains(&excess)
 }
 
 // Given: a body, of any floats at all. Answered: its direction, with the distance.
 // Refused: 3, a float not finite; 4, distance or ratio out of range; 5, direction not of length one.
-pub fn see(body: Body) -> Sight
+#[tactic(auto, unfolding(crate::specs::Bodies::sighted))]
+pub fn see(body: Body) -> Result<Direction, Refusal>
     ensures { tells result ≡ sighted body }
 {
-    let place = body.place;
-    let ratio = body.ratio;
     if !is_finite_body(body) {
-        return Sight::Refused(Refusal::NotFinite);
+        return Err(Refusal::NotFinite);
     }
-    let d = direction_of(place);
-    if !is_in_reach(d.r, ratio) {
-        return Sight::Refused(Refusal::BodyRange);
+    let d = Direction::from(body.place);
+    if !is_in_reach(d.r, body.ratio) {
+        return Err(Refusal::BodyRange);
     }
-    if is_of_length_one(d) {
-        Sight::At(d)
-    } else {
-        Sight::Refused(Refusal::NotUnit)
+    if !is_of_length_one(d) {
+        return Err(Refusal::NotUnit);
     }
+    Ok(d)
 }

@@ -1,6 +1,6 @@
 -- What each call answers to C, and every lent entry afterwards: the unit's own call, or 100 and nothing changed.
 use Rattle.std.specs.Prelude.{List, ◌≡◌, ℕ, ◌+◌, ◌*◌, ℤ, length}
-use Rattle.arguments.specs.Phase.{Phases}
+use Rattle.arguments.specs.declared.Phases.{Phases}
 use Rattle.refusals.specs.Told.{Told, next}
 use Rattle.refusals.specs.Told.Told.{accepted, refused}
 use Rattle.doodson.specs.Doodson.{read_doodson}
@@ -15,7 +15,9 @@ use Rattle.permanent.specs.Systems.{moved_c20}
 use Rattle.surfgimlet.specs.Calls.{solid_tide, pole_tide, ocean_tide}
 use Rattle.choices.specs.declared.PermanentSystem.{PermanentSystem}
 use Rattle.crossing.specs.declared.GivenBody.{GivenBody}
-use Rattle.crossing.specs.Choices.{love_model, frame_of, permanent_system, argument_of, body_of}
+use Rattle.arguments.specs.Phase.{argument_of}
+use Rattle.choices.specs.Numbers.{love_model, frame_of, permanent_system}
+use Rattle.crossing.specs.Bodies.{body_of}
 
 -- a version's number, of its major, minor and patch number
 abbrev pub version_number : ℕ → ℕ → ℕ → ℕ

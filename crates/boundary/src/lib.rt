@@ -4,7 +4,7 @@
 #![tactic(auto)]
 
 ghost use Rattle.std.specs.Prelude.{◌≡◌};
-ghost use Rattle.crossing.specs.Choices.{unlisted};
+ghost use Rattle.arguments.specs.Phase.{unlisted};
 ghost use Rattle.doodson.specs.Doodson.{write_doodson};
 ghost use Rattle.hour.specs.Hour.{hour_at, start_hour};
 ghost use Rattle.icgem_file.specs.File.{file_head, read_file};
@@ -16,12 +16,11 @@ ghost use Rattle.profiles.specs.Profiles.{all_lines, major_lines};
 ghost use Rattle.selection.specs.Selection.{lines_named};
 ghost use Rattle.boundary.specs.Calls.{version_number, solid_given, hour_given, pole_given, ocean_given, move_given, LeavesField, LeavesBytes, write_given, multipliers_given};
 
-use arguments::Phases;
+use arguments::{Argument, Multipliers, Phases};
 use bodies::Body;
 use choices::{Frame, LoveModel, PermanentSystem};
 use crossing::GivenBody;
 use hour::Hour;
-use icgem_read::FileTold;
 use own::OwnLine;
 
 const NO_SUCH_CHOICE: u32 = 100;
@@ -55,15 +54,17 @@ pub extern "C" fn surfgimlet_solid_tide(
 ) -> u32
     ensures { GivesAndLeaves (solid_given n c.old s.old moon sun love hour selection) (lines_named selection) result c.new s.new lines.old lines.new }
 {
-    if crossing::is_love(love) & crossing::is_body(moon) & crossing::is_body(sun) {
-        let moon: Body = crossing::body_of(moon);
-        let sun: Body = crossing::body_of(sun);
-        let love: LoveModel = crossing::love_of(love);
-        let told = surfgimlet::solid_tide(n, c, s, moon, sun, love, hour, selection);
-        leaving::leave_named(told, lines)
-    } else {
-        NO_SUCH_CHOICE
-    }
+    let Ok(love) = LoveModel::try_from(love) else {
+        return NO_SUCH_CHOICE;
+    };
+    let Ok(moon) = Body::try_from(moon) else {
+        return NO_SUCH_CHOICE;
+    };
+    let Ok(sun) = Body::try_from(sun) else {
+        return NO_SUCH_CHOICE;
+    };
+    let told = surfgimlet::solid_tide(n, c, s, moon, sun, love, hour, selection);
+    leaving::leave(told, lines)
 }
 
 // The hour of all phases zero.
@@ -92,13 +93,12 @@ pub extern "C" fn surfgimlet_move_hour(
 ) -> Hour
     ensures { Leaves (hour_given hour argument amount) hour answer.new result }
 {
-    if crossing::is_argument(argument) {
-        *answer = 0;
-        surfgimlet::move_hour(hour, crossing::argument_of(argument), amount)
-    } else {
+    let Ok(argument) = Argument::try_from(argument) else {
         *answer = NO_SUCH_CHOICE;
-        hour
-    }
+        return hour;
+    };
+    *answer = 0;
+    surfgimlet::move_hour(hour, argument, amount)
 }
 
 // The selection of all printed lines.
@@ -143,12 +143,10 @@ pub extern "C" fn surfgimlet_pole_tide(
 ) -> u32
     ensures { Gives (pole_given n c.old s.old xp yp love) result c.new s.new }
 {
-    if crossing::is_love(love) {
-        let love: LoveModel = crossing::love_of(love);
-        refusals::answer_number(surfgimlet::pole_tide(n, c, s, xp, yp, love))
-    } else {
-        NO_SUCH_CHOICE
-    }
+    let Ok(love) = LoveModel::try_from(love) else {
+        return NO_SUCH_CHOICE;
+    };
+    refusals::answer_number(surfgimlet::pole_tide(n, c, s, xp, yp, love))
 }
 
 // The ocean tide of a model sheet. Refused: 100, then as surfgimlet::ocean_tide.
@@ -163,12 +161,10 @@ pub extern "C" fn surfgimlet_ocean_tide(
 ) -> u32
     ensures { Gives (ocean_given n c.old s.old sheet.now phases frame) result c.new s.new }
 {
-    if crossing::is_frame(frame) {
-        let frame: Frame = crossing::frame_of(frame);
-        refusals::answer_number(surfgimlet::ocean_tide(n, c, s, sheet, phases, frame))
-    } else {
-        NO_SUCH_CHOICE
-    }
+    let Ok(frame) = Frame::try_from(frame) else {
+        return NO_SUCH_CHOICE;
+    };
+    refusals::answer_number(surfgimlet::ocean_tide(n, c, s, sheet, phases, frame))
 }
 
 // One C20 to another permanent system. Refused: 100, then as surfgimlet::move_c20.
@@ -182,14 +178,16 @@ pub extern "C" fn surfgimlet_move_c20(
 ) -> u32
     ensures { Leaves (move_given c20 from to love) moved.old result moved.new }
 {
-    if crossing::is_system(from) & crossing::is_system(to) & crossing::is_love(love) {
-        let from: PermanentSystem = crossing::system_of(from);
-        let to: PermanentSystem = crossing::system_of(to);
-        let love: LoveModel = crossing::love_of(love);
-        leaving::leave_moved(surfgimlet::move_c20(c20, from, to, love), moved)
-    } else {
-        NO_SUCH_CHOICE
-    }
+    let Ok(from) = PermanentSystem::try_from(from) else {
+        return NO_SUCH_CHOICE;
+    };
+    let Ok(to) = PermanentSystem::try_from(to) else {
+        return NO_SUCH_CHOICE;
+    };
+    let Ok(love) = LoveModel::try_from(love) else {
+        return NO_SUCH_CHOICE;
+    };
+    leaving::leave(surfgimlet::move_c20(c20, from, to, love), moved)
 }
 
 // What a file says. Refused as surfgimlet::file_head.
@@ -203,8 +201,7 @@ pub extern "C" fn surfgimlet_file_head(
 ) -> u32
     ensures { Leaves (numbers_of (file_head text.now)) (head_numbers degree.old constant.old radius.old system.old) result (head_numbers degree.new constant.new radius.new system.new) }
 {
-    let told: FileTold = surfgimlet::file_head(text);
-    leaving::leave_head(told, degree, constant, radius, system)
+    leaving::leave_head(surfgimlet::file_head(text), degree, constant, radius, system)
 }
 
 // A file read. Refused as surfgimlet::read_field.
@@ -220,7 +217,7 @@ pub extern "C" fn surfgimlet_read_field(
 ) -> u32
     ensures { LeavesField (read_file text.now c.old s.old) c.new s.new (head_numbers degree.old constant.old radius.old system.old) result (head_numbers degree.new constant.new radius.new system.new) }
 {
-    let told: FileTold = surfgimlet::read_field(text, c, s);
+    let told = surfgimlet::read_field(text, c, s);
     leaving::leave_head(told, degree, constant, radius, system)
 }
 
@@ -238,15 +235,11 @@ pub extern "C" fn surfgimlet_write_field(
 ) -> u32
     ensures { LeavesBytes (write_given n c.now s.now constant radius system out.old) out.new written.old result written.new }
 {
-    if crossing::is_system(system) {
-        let system: PermanentSystem = crossing::system_of(system);
-        leaving::leave_wrote(
-            surfgimlet::write_field(n, c, s, constant, radius, system, out),
-            written,
-        )
-    } else {
-        NO_SUCH_CHOICE
-    }
+    let Ok(system) = PermanentSystem::try_from(system) else {
+        return NO_SUCH_CHOICE;
+    };
+    let told = surfgimlet::write_field(n, c, s, constant, radius, system, out);
+    leaving::leave(told, written)
 }
 
 // A Doodson number's multipliers. Refused as surfgimlet::multipliers_of.
@@ -262,10 +255,8 @@ pub extern "C" fn surfgimlet_multipliers_of(number: u32, multipliers: &mut [i32;
 pub extern "C" fn surfgimlet_number_of(multipliers: &[i32; 6], number: &mut u32) -> u32
     ensures { Leaves (write_doodson (unlisted multipliers.now)) number.old result number.new }
 {
-    leaving::leave_number(
-        surfgimlet::number_of(crossing::multipliers_in(multipliers)),
-        number,
-    )
+    let multipliers = Multipliers::from(*multipliers);
+    leaving::leave(surfgimlet::number_of(multipliers), number)
 }
 
 // A printed line by its Doodson number. Refused as surfgimlet::find_line.

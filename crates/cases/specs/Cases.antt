@@ -2,8 +2,8 @@
 use Rattle.std.specs.Prelude.{◌≡◌, true, false, List, [], ◌∷◌, ◌++◌, map, ℕ, ◌*◌, ◌^◌, ℤ, pos, neg_ℤ, replicate, set, take}
 use Rattle.std.specs.Float.{binary64}
 use Rattle.std.specs.Float.Ieee.{round}
-use Rattle.arguments.specs.Phase.{Multipliers}
-use Rattle.arguments.specs.Phase.{Phases}
+use Rattle.arguments.specs.declared.Multipliers.{Multipliers}
+use Rattle.arguments.specs.declared.Phases.{Phases}
 use Rattle.bands.specs.declared.Corrections.{Corrections}
 use Rattle.choices.specs.declared.Frame.{Frame}
 use Rattle.choices.specs.declared.LoveModel.TheVariants.{Anelastic}

@@ -1,5 +1,5 @@
 -- The closed choices as numbers, as they cross from C.
-use Rattle.std.specs.Prelude.{List, [], ◌∷◌, ℕ, zero, suc, Result, Ok, Err}
+use Rattle.std.specs.Prelude.{List, [], ◌∷◌, ℕ, zero, suc, Bool, true, false, ◌≡◌, Result, Ok, Err}
 use Rattle.choices.specs.declared.Frame.{Frame}
 use Rattle.choices.specs.declared.Frame.TheVariants.{CentreOfFigure, CentreOfMass}
 use Rattle.choices.specs.declared.LoveModel.{LoveModel}
@@ -20,6 +20,15 @@ chosen (case ∷ cases) (suc number) = chosen cases number
 abbrev pub told : {A : Type 0} → Result A NoSuchChoice → Told A
 told (Ok a) = accepted a
 told (Err e) = refused 100
+
+-- a number names a case; and where it does, which one
+abbrev pub names : {A : Type 0} → Told A → Bool
+names (accepted a) = true
+names (refused number) = false
+
+abbrev pub Converts : {A : Type 0} → Told A → A → Type 0
+Converts (accepted a) r = a ≡ r
+Converts (refused number) r = Unit {0}
 
 abbrev pub love_model : ℕ → Told LoveModel
 love_model number = chosen (Elastic ∷ Anelastic ∷ []) number

@@ -1,78 +1,96 @@
-// Words and numbers at the end of so many columns, put into a lent buffer; the answer is the place after them.
+// Words and numbers at the end of so many columns, put on a page.
 
 #![tactic(auto)]
 
-ghost use Rattle.std.specs.Prelude.{◌≡◌, ◌++◌, ◌+◌, ◌^◌, ◌≤◌, length};
-ghost use Rattle.text.specs.Inner.{Put};
-ghost use Rattle.text.specs.Text.{decimal, fixed_point, sign, padded};
+ghost use Rattle.std.specs.Prelude.{List, ◌≡◌, ◌+◌, ◌/◌, ◌^◌, ◌≤◌, ◌<◌, ℕ, length};
+ghost use Rattle.text.specs.Inner.{HasRoom, Puts};
+ghost use Rattle.text.specs.Text.{decimal, padded};
 
-// Puts a word at the end of its columns.
-pub fn put_word(out: &mut [u8], at: usize, columns: usize, word: &[u8]) -> usize
-    requires room { at + columns ≤ length out.old }
-    requires within { length word.now ≤ columns }
-    ensures { Put out.old at (padded columns word.now) out.new result }
-{
-    let next = text::put_spaces(out, at, columns - word.len());
-    text::put_word(out, next, word)
+use text::Page;
+
+// What has a text.
+pub trait Value {
+    ghost text: { Self → List ℕ };
+
+    // How many bytes the text has.
+    fn len(&self) -> usize
+        requires { length (text self.now) < 2 ^ 64 }
+        ensures { result ≡ length (text self.now) };
+
+    // Puts the text.
+    fn put(&self, page: &mut Page)
+        requires { HasRoom page.old (length (text self.now)) }
+        ensures { Puts page.old (text self.now) page.new };
 }
 
-// Puts a whole number at the end of its columns.
-pub fn put_whole(out: &mut [u8], at: usize, columns: usize, n: u64) -> usize
-    requires room { at + columns ≤ length out.old }
-    requires within { length (decimal n) ≤ columns }
-    ensures { Put out.old at (padded columns (decimal n)) out.new result }
+// Puts a value's text at the end of its columns.
+pub fn put<V: Value + Drop>(page: &mut Page, columns: usize, value: V)
+    requires room { HasRoom page.old columns }
+    requires within { length (V.text value) ≤ columns }
+    ensures put { Puts page.old (padded columns (V.text value)) page.new }
+    ensures filled { page.new.at ≡ page.old.at + columns }
 {
-    let next = text::put_spaces(out, at, columns - text::digits_in(n));
-    text::put_decimal(out, next, n)
+    page.put_spaces(columns - value.len());
+    value.put(page);
 }
 
-// Puts a minus sign, or nothing.
-fn put_sign(out: &mut [u8], at: usize, negative: bool) -> usize
-    requires { at + length (sign negative) ≤ length out.old }
-    ensures { Put out.old at (sign negative) out.new result }
-{
-    if negative {
-        text::put_byte(out, at, b'-')
-    } else {
-        at
+// A word is its own text.
+impl Value for &str {
+    ghost text = { λ word. word.now };
+
+    fn len(&self) -> usize {
+        str::len(self)
+    }
+
+    fn put(&self, page: &mut Page) {
+        page.put_word(self);
     }
 }
 
-// Puts n divided by the scale, 10^decimals, with that many decimals.
-fn put_point(out: &mut [u8], at: usize, decimals: usize, scale: u64, n: u64) -> usize
-    requires room { at + length (fixed_point decimals n) ≤ length out.old }
-    requires scaled { scale ≡ 10 ^ decimals }
-    ensures { Put out.old at (fixed_point decimals n) out.new result }
-{
-    let dot = text::put_decimal(out, at, n / scale);
-    let next = text::put_byte(out, dot, b'.');
-    text::put_last(out, next, decimals, n)
+// A whole number, in decimal.
+impl Value for u64 {
+    ghost text = { decimal };
+
+    fn len(&self) -> usize {
+        text::digits_in(*self)
+    }
+
+    fn put(&self, page: &mut Page) {
+        page.put_decimal(*self);
+    }
 }
 
-// How many columns a minus sign takes.
-fn sign_columns(negative: bool) -> usize
-    ensures { result ≡ length (sign negative) }
-{
-    if negative { 1 } else { 0 }
+// size / 10^decimals with its sign, each decimal written.
+#[derive(Clone, Copy)]
+pub struct Fixed {
+    pub negative: bool,
+    pub size: u64,
+    pub decimals: u32,
+    ghost scaled: { 10 ^ decimals < 2 ^ 64 },
 }
 
-// Puts a number with decimals at the end of its columns.
-pub fn put_number(
-    out: &mut [u8],
-    at: usize,
-    columns: usize,
-    negative: bool,
-    decimals: usize,
-    scale: u64,
-    n: u64,
-) -> usize
-    requires room { at + columns ≤ length out.old }
-    requires within { length (sign negative ++ fixed_point decimals n) ≤ columns }
-    requires scaled { scale ≡ 10 ^ decimals }
-    ensures { Put out.old at (padded columns (sign negative ++ fixed_point decimals n)) out.new result }
-{
-    let digits = sign_columns(negative) + text::digits_in(n / scale) + 1 + decimals;
-    let next = text::put_spaces(out, at, columns - digits);
-    let next = put_sign(out, next, negative);
-    put_point(out, next, decimals, scale, n)
+impl Fixed {
+    // What stands before the dot.
+    fn whole(&self) -> u64
+        ensures { result ≡ self.now.size / 10 ^ self.now.decimals }
+    {
+        self.size / 10u64.pow(self.decimals)
+    }
+}
+
+impl Value for Fixed {
+    ghost use Rattle.columns.specs.Fixed.{fixed};
+
+    ghost text = { fixed };
+
+    fn len(&self) -> usize {
+        usize::from(self.negative) + text::digits_in(self.whole()) + 1 + self.decimals as usize
+    }
+
+    fn put(&self, page: &mut Page) {
+        page.put_sign(self.negative);
+        page.put_decimal(self.whole());
+        page.put_byte(b'.');
+        page.put_last(self.decimals as usize, self.size);
+    }
 }

@@ -1,17 +1,17 @@
 -- Document 01, "Step one": the Love numbers, in hundred-thousandths, each the f64 nearest its decimal.
 use Rattle.std.specs.Prelude.{ℕ, Float}
+use Rattle.doubles.specs.declared.Complex.{Complex}
 use Rattle.doubles.specs.Doubles.{decimal, minus_decimal, number}
 use Rattle.choices.specs.declared.LoveModel.{LoveModel}
 use Rattle.choices.specs.declared.LoveModel.TheVariants.{Elastic, Anelastic}
-use Rattle.constants.specs.declared.Love.{Love}
 use Rattle.constants.specs.declared.Loves.{Loves}
 use Rattle.constants.specs.declared.Loves3.{Loves3}
 
-abbrev real : ℕ → Love
+abbrev real : ℕ → Complex
 real x = record { re = decimal x 100000; im = number 0 }
 
 -- x - iy
-abbrev complex : ℕ → ℕ → Love
+abbrev complex : ℕ → ℕ → Complex
 complex x y = record { re = decimal x 100000; im = minus_decimal y 100000 }
 
 abbrev minus : ℕ → Float

@@ -2,7 +2,7 @@
 use Rattle.std.specs.Prelude.{Bool, ◌&&◌, List, [], ◌∷◌, map, ℕ, ◌+◌, ◌-◌, ◌*◌, ◌^◌, leb, ltb, Float, get_or}
 use Rattle.std.specs.Float.{nan}
 use Rattle.doubles.specs.Doubles.{decimal}
-use Rattle.constants.specs.declared.Norms.{Norms}
+use Rattle.constants.specs.declared.PerTerm.{PerTerm}
 
 -- N squared is num / over, and N is digits / 2^places
 pub record Root : Type 0 where
@@ -35,5 +35,5 @@ is_nearest r =
 abbrev norm : ℕ → Float
 norm i = get_or (map (λ r. decimal r.digits (2 ^ r.places)) roots) i nan
 
-unfoldable pub norms : Norms
-norms = record { n20 = norm 0; n21 = norm 1; n22 = norm 2; n30 = norm 3; n31 = norm 4; n32 = norm 5; n33 = norm 6 }
+unfoldable pub norms : PerTerm Float
+norms = record { t20 = norm 0; t21 = norm 1; t22 = norm 2; t30 = norm 3; t31 = norm 4; t32 = norm 5; t33 = norm 6 }

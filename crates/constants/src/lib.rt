@@ -8,20 +8,14 @@ ghost use Rattle.constants.specs.Love.{loves, loves3};
 ghost use Rattle.constants.specs.Norms.{norms};
 
 use choices::LoveModel;
-
-// A complex Love number.
-#[derive(Clone, Copy)]
-pub struct Love {
-    pub re: f64,
-    pub im: f64,
-}
+use doubles::Complex;
 
 // k of degree 2, and k+ from degree 2 to degree 4.
 #[derive(Clone, Copy)]
 pub struct Loves {
-    pub k20: Love,
-    pub k21: Love,
-    pub k22: Love,
+    pub k20: Complex,
+    pub k21: Complex,
+    pub k22: Complex,
     pub plus0: f64,
     pub plus1: f64,
     pub plus2: f64,
@@ -30,34 +24,34 @@ pub struct Loves {
 // k of degree 3.
 #[derive(Clone, Copy)]
 pub struct Loves3 {
-    pub k30: Love,
-    pub k31: Love,
-    pub k32: Love,
-    pub k33: Love,
+    pub k30: Complex,
+    pub k31: Complex,
+    pub k32: Complex,
+    pub k33: Complex,
 }
 
-// N of each degree and order.
+// A value at each degree and order, of degree 2 and 3.
 #[derive(Clone, Copy)]
-pub struct Norms {
-    pub n20: f64,
-    pub n21: f64,
-    pub n22: f64,
-    pub n30: f64,
-    pub n31: f64,
-    pub n32: f64,
-    pub n33: f64,
+pub struct PerTerm<T> {
+    pub t20: T,
+    pub t21: T,
+    pub t22: T,
+    pub t30: T,
+    pub t31: T,
+    pub t32: T,
+    pub t33: T,
 }
 
 const ELASTIC: Loves = Loves {
-    k20: Love {
+    k20: Complex {
         re: 0.29525,
         im: 0.0,
     },
-    k21: Love {
+    k21: Complex {
         re: 0.29470,
         im: 0.0,
     },
-    k22: Love {
+    k22: Complex {
         re: 0.29801,
         im: 0.0,
     },
@@ -67,15 +61,15 @@ const ELASTIC: Loves = Loves {
 };
 
 const ANELASTIC: Loves = Loves {
-    k20: Love {
+    k20: Complex {
         re: 0.30190,
         im: 0.0,
     },
-    k21: Love {
+    k21: Complex {
         re: 0.29830,
         im: -0.00144,
     },
-    k22: Love {
+    k22: Complex {
         re: 0.30102,
         im: -0.00130,
     },
@@ -86,20 +80,20 @@ const ANELASTIC: Loves = Loves {
 
 // Of both models.
 const DEGREE_3: Loves3 = Loves3 {
-    k30: Love { re: 0.093, im: 0.0 },
-    k31: Love { re: 0.093, im: 0.0 },
-    k32: Love { re: 0.093, im: 0.0 },
-    k33: Love { re: 0.094, im: 0.0 },
+    k30: Complex { re: 0.093, im: 0.0 },
+    k31: Complex { re: 0.093, im: 0.0 },
+    k32: Complex { re: 0.093, im: 0.0 },
+    k33: Complex { re: 0.094, im: 0.0 },
 };
 
-const NORMS: Norms = Norms {
-    n20: 2.23606797749979,
-    n21: 1.2909944487358056,
-    n22: 0.6454972243679028,
-    n30: 2.6457513110645907,
-    n31: 1.0801234497346435,
-    n32: 0.3415650255319866,
-    n33: 0.13944333775567927,
+const NORMS: PerTerm<f64> = PerTerm {
+    t20: 2.23606797749979,
+    t21: 1.2909944487358056,
+    t22: 0.6454972243679028,
+    t30: 2.6457513110645907,
+    t31: 1.0801234497346435,
+    t32: 0.3415650255319866,
+    t33: 0.13944333775567927,
 };
 
 pub fn loves_of(model: LoveModel) -> Loves
@@ -117,7 +111,8 @@ pub fn loves_3() -> Loves3
     DEGREE_3
 }
 
-pub fn norms_of() -> Norms
+// N of each degree and order.
+pub fn norms_of() -> PerTerm<f64>
     ensures { result ≡ norms }
 {
     NORMS

@@ -1,4 +1,4 @@
-// The count of a float: the whole number nearest its exact value, from its bits.
+// The count of a float: the whole number nearest its exact value, from its bits, as document 01 has it, and so not by `round`.
 
 #![tactic(auto)]
 
@@ -8,9 +8,9 @@ ghost use Rattle.std.specs.Float.Ieee.{of_bits};
 ghost use Rattle.limits.specs.Limits.{is_countable};
 ghost use Rattle.count.specs.Count.{count};
 
-const SIGN: u64 = 9223372036854775808;
+const SIGN: u64 = 1 << 63;
 
-const LEAD: u64 = 4503599627370496;
+const LEAD: u64 = 1 << 52;
 
 // q / 2^(h + 1) to the nearest whole number, a half up.
 fn halved(q: u64, h: u64) -> i64
@@ -33,7 +33,7 @@ fn places_of(field: u64) -> u64
     requires { field < 1075 }
     ensures { (result < 64) × (1011 ≤ field → result + field ≡ 1074) × (field < 1011 → result ≡ 63) }
 {
-    if field < 1011 { 63 } else { 1074 - field }
+    (1074 - field).min(63)
 }
 
 // The float with the bits b, below 2^52 in size: the size is rounded, a half up, and gets the sign.
@@ -50,5 +50,5 @@ pub fn nearest_count(x: f64) -> i64
     requires { T (is_countable x) }
     ensures { result ≡ count x }
 {
-    nearest_of_bits(f64::to_bits(x))
+    nearest_of_bits(x.to_bits())
 }

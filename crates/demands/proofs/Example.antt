@@ -3,7 +3,7 @@ use mathlib.Core.Path.{◌≡◌, refl}
 use mathlib.Core.List.{List, [], ◌∷◌}
 use Prim.Native.Nat.{◌^◌}
 use lib.IntN.{ℤ, pos, neg_ℤ}
-use Rattle.arguments.specs.Phase.{Phases}
+use Rattle.arguments.specs.declared.Phases.{Phases}
 use Rattle.arguments.specs.Phase.{modulo, phase}
 use Rattle.bands.specs.Bands.{of_diurnal, of_long_period, of_semidiurnal, of_band, term, sum_of, correction_of, corrections_of}
 use Rattle.bands.specs.declared.Corrections.{Corrections}

@@ -4,7 +4,7 @@ use mathlib.Core.List.{List, map, ◌++◌}
 use mathlib.Core.Path.{◌≡◌, refl, sym, ◌∙◌}
 use Prim.Native.Nat.{ℕ, ◌<◌}
 use lib.IntN.{ℤ, pos}
-use Rattle.arguments.specs.Phase.{Phases}
+use Rattle.arguments.specs.declared.Phases.{Phases}
 use Rattle.bands.specs.Bands.{Coefficient, C20, C21, S21, C22, S22, term, sum_of, corrections_of}
 use Rattle.choices.specs.declared.LoveModel.{LoveModel}
 use Rattle.choices.specs.declared.LoveModel.TheVariants.{Anelastic}

@@ -1,6 +1,6 @@
 -- The calls as they were: step one's, and step two's, which an operator made on the field that the first left; and the solid tide from bare phases.
 use Rattle.std.specs.Prelude.{List, ℕ, ℤ}
-use Rattle.arguments.specs.Phase.{Phases}
+use Rattle.arguments.specs.declared.Phases.{Phases}
 use Rattle.bodies.specs.declared.Body.{Body}
 use Rattle.choices.specs.declared.LoveModel.{LoveModel}
 use Rattle.field.specs.Added.{added_at}

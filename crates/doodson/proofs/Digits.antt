@@ -8,7 +8,7 @@ use lib.Dec.{T, leb}
 use lib.IntN.{ℤ, pos, negsuc, nat_abs, ◌+ℤ◌, ◌-ℤ◌}
 use mir.Syntax.{w32}
 use mir.Val.{SFits}
-use Rattle.arguments.specs.Phase.{Multipliers}
+use Rattle.arguments.specs.declared.Multipliers.{Multipliers}
 use Rattle.whole.proofs.Parts.{up, dn, up_le, dn_le, same, sum, difference, abs}
 use Rattle.whole.proofs.Tests.{and_left, and_right}
 use Rattle.doodson.specs.Doodson.{first, other, writable}

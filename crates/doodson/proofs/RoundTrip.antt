@@ -7,7 +7,7 @@ use native.Mathlib.Nat.{div-div-eq-div-mul}
 use native.Mathlib.Omega.{arith}
 use lib.Dec.{leb}
 use lib.IntN.{ℤ, pos, nat_abs, ◌+ℤ◌, ◌-ℤ◌}
-use Rattle.arguments.specs.Phase.{Multipliers}
+use Rattle.arguments.specs.declared.Multipliers.{Multipliers}
 use Rattle.refusals.specs.Told.Told.{accepted, refused}
 use Rattle.doodson.specs.Doodson.{digit, multipliers_in, number_of, writable, read_doodson, write_doodson}
 use Rattle.doodson.proofs.Digits.{digit_first, digit_other, digit_back, raised_small, raised_back, first_small, first_back, Writable, all_writable, writable_each}

@@ -1,15 +1,10 @@
 -- Document 01, "Doodson numbers".
 use Rattle.std.specs.Prelude.{Bool, ◌&&◌, cond, ℕ, ◌+◌, ◌*◌, ◌/◌, ◌%◌, ◌^◌, ℤ, pos, negsuc, nat_abs, ◌+ℤ◌, ◌-ℤ◌}
 use Rattle.std.specs.Int.Signed.{le_z}
-use Rattle.arguments.specs.Phase.{Multipliers}
+use Rattle.arguments.specs.declared.Multipliers.{Multipliers}
 use Rattle.limits.specs.Limits.{is_doodson}
 use Rattle.refusals.specs.Told.{Told}
-use Rattle.refusals.specs.Numbers.{refusal_number}
 use Rattle.refusals.specs.Told.Told.{accepted, refused}
-use Rattle.doodson.specs.declared.Read.{Read}
-use Rattle.doodson.specs.declared.Read.TheVariants as read
-use Rattle.doodson.specs.declared.Written.{Written}
-use Rattle.doodson.specs.declared.Written.TheVariants as written
 
 -- a number's decimal digit with k digits after it
 abbrev pub digit : ℕ → ℕ → ℕ
@@ -24,6 +19,20 @@ multipliers_in number = record {
   p = pos (digit number 2) -ℤ pos 5;
   np = pos (digit number 1) -ℤ pos 5;
   ps = pos (digit number 0) -ℤ pos 5;
+}
+
+-- the same in any base
+abbrev pub digit_in : ℕ → ℕ → ℕ → ℕ
+digit_in base number k = number / base ^ k % base
+
+unfoldable pub multipliers_written : ℕ → ℕ → Multipliers
+multipliers_written base number = record {
+  tau = pos (digit_in base number 5);
+  s = pos (digit_in base number 4) -ℤ pos 5;
+  h = pos (digit_in base number 3) -ℤ pos 5;
+  p = pos (digit_in base number 2) -ℤ pos 5;
+  np = pos (digit_in base number 1) -ℤ pos 5;
+  ps = pos (digit_in base number 0) -ℤ pos 5;
 }
 
 unfoldable pub number_of : Multipliers → ℕ
@@ -51,12 +60,3 @@ read_doodson number = cond (is_doodson number) (accepted (multipliers_in number)
 
 unfoldable pub write_doodson : Multipliers → Told ℕ
 write_doodson n = cond (writable n) (accepted (number_of n)) (refused 10)
-
--- the number and the value of each answer
-abbrev pub tells_read : Read → Told Multipliers
-tells_read (read.Multipliers n) = accepted n
-tells_read (read.Refused r) = refused (refusal_number r)
-
-abbrev pub tells_written : Written → Told ℕ
-tells_written (written.Number number) = accepted number
-tells_written (written.Refused r) = refused (refusal_number r)

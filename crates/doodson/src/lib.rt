@@ -3,71 +3,77 @@
 #![tactic(auto)]
 
 ghost use Rattle.std.specs.Prelude.{◌≡◌, true, ◌+◌, ◌*◌, ◌≤◌, pos, nat_abs, ◌+ℤ◌, ◌-ℤ◌};
-ghost use Rattle.doodson.specs.Doodson.{multipliers_in, writable, other, read_doodson, write_doodson, tells_read, tells_written};
+ghost use Rattle.doodson.specs.Doodson.{digit_in, multipliers_written, first, other, writable, read_doodson, write_doodson};
+ghost use Rattle.refusals.specs.Numbers.{tells};
 
 use arguments::Multipliers;
 use refusals::Refusal;
 
-#[derive(Clone, Copy)]
-pub enum Read {
-    Multipliers(Multipliers),
-    Refused(Refusal),
-}
-
-#[derive(Clone, Copy)]
-pub enum Written {
-    Number(u32),
-    Refused(Refusal),
+// A number's digit in a base, with k digits after it.
+fn digit<const BASE: u32>(number: u32, k: u32) -> u32
+    requires base { (2 ≤ BASE) × (BASE ≤ 16) }
+    requires place { k ≤ 5 }
+    ensures { (result ≡ digit_in BASE number k) × (result ≤ 15) }
+{
+    number / BASE.pow(k) % BASE
 }
 
 // The multiplier that a digit other than the first writes.
-pub fn multiplier_of(digit: u32) -> i32
+fn multiplier_of(digit: u32) -> i32
     requires { digit ≤ 15 }
     ensures { result ≡ pos digit -ℤ pos 5 }
 {
     digit as i32 - 5
 }
 
-// The multipliers in a number's last six digits.
-pub fn multipliers_in(number: u32) -> Multipliers
-    ensures { result ≡ multipliers_in number }
+// The multipliers that a number's last six digits in a base write.
+pub fn multipliers_in<const BASE: u32>(number: u32) -> Multipliers
+    requires { (2 ≤ BASE) × (BASE ≤ 16) }
+    ensures { result ≡ multipliers_written BASE number }
 {
     Multipliers {
-        tau: (number / 100000 % 10) as i32,
-        s: multiplier_of(number / 10000 % 10),
-        h: multiplier_of(number / 1000 % 10),
-        p: multiplier_of(number / 100 % 10),
-        np: multiplier_of(number / 10 % 10),
-        ps: multiplier_of(number / 1 % 10),
+        tau: digit::<BASE>(number, 5) as i32,
+        s: multiplier_of(digit::<BASE>(number, 4)),
+        h: multiplier_of(digit::<BASE>(number, 3)),
+        p: multiplier_of(digit::<BASE>(number, 2)),
+        np: multiplier_of(digit::<BASE>(number, 1)),
+        ps: multiplier_of(digit::<BASE>(number, 0)),
     }
 }
 
 // Given: a Doodson number.
 // Answered: its six multipliers.
 // Refused: 10, a number above 999,999.
-pub fn multipliers_of(number: u32) -> Read
-    ensures { tells_read result ≡ read_doodson number }
+#[tactic(auto, unfolding(crate::specs::Doodson::read_doodson))]
+pub fn multipliers_of(number: u32) -> Result<Multipliers, Refusal>
+    ensures { tells result ≡ read_doodson number }
 {
     if limits::is_doodson(number) {
-        Read::Multipliers(multipliers_in(number))
+        Ok(multipliers_in::<10>(number))
     } else {
-        Read::Refused(Refusal::NotDoodson)
+        Err(Refusal::NotDoodson)
     }
 }
 
-// Whether a multiplier other than the first has a digit.
+// Whether a first multiplier has a digit.
+fn has_first_digit(n: i32) -> bool
+    ensures { result ≡ first n }
+{
+    (0..=9).contains(&n)
+}
+
+// Whether another multiplier has one.
 fn has_digit(n: i32) -> bool
     ensures { result ≡ other n }
 {
-    (-5 <= n) & (n <= 4)
+    (-5..=4).contains(&n)
 }
 
 // Whether a number can write the multipliers.
 fn is_writable(n: Multipliers) -> bool
     ensures { result ≡ writable n }
 {
-    (0 <= n.tau)
-        & (n.tau <= 9)
+    has_first_digit(n.tau)
         & has_digit(n.s)
         & has_digit(n.h)
         & has_digit(n.p)
@@ -77,7 +83,8 @@ fn is_writable(n: Multipliers) -> bool
 
 // A number with the digit of one more multiplier after it.
 fn appended(front: u32, n: i32) -> u32
-    requires { (front ≤ 99999) × (other n ≡ true) }
+    requires room { front ≤ 99999 }
+    requires digit { other n ≡ true }
     ensures { (result ≡ front * 10 + nat_abs (n +ℤ pos 5)) × (result ≤ front * 10 + 9) }
 {
     front * 10 + (n + 5) as u32
@@ -86,16 +93,16 @@ fn appended(front: u32, n: i32) -> u32
 // Given: six multipliers.
 // Answered: the Doodson number that writes them.
 // Refused: 10, a first multiplier outside 0..9 or another outside -5..4.
-pub fn number_of(n: Multipliers) -> Written
-    ensures { tells_written result ≡ write_doodson n }
+#[tactic(auto, using(crate::proofs::Digits::writable_each, crate::proofs::Digits::first_small, crate::proofs::Digits::first_parts), unfolding(crate::specs::Doodson::write_doodson, crate::specs::Doodson::number_of))]
+pub fn number_of(n: Multipliers) -> Result<u32, Refusal>
+    ensures { tells result ≡ write_doodson n }
 {
-    if is_writable(n) {
-        let two = appended(n.tau as u32, n.s);
-        let three = appended(two, n.h);
-        let four = appended(three, n.p);
-        let five = appended(four, n.np);
-        Written::Number(appended(five, n.ps))
-    } else {
-        Written::Refused(Refusal::NotDoodson)
+    if !is_writable(n) {
+        return Err(Refusal::NotDoodson);
     }
+    let two = appended(n.tau as u32, n.s);
+    let three = appended(two, n.h);
+    let four = appended(three, n.p);
+    let five = appended(four, n.np);
+    Ok(appended(five, n.ps))
 }

@@ -1,6 +1,6 @@
 -- Document 01, "Step one, in f64, each operation rounded once".
 use Rattle.std.specs.Prelude.{Bool, true, false, ℕ, Float}
-use Rattle.std.specs.Float.{nan, inf, fin, binary64}
+use Rattle.std.specs.Float.{binary64, float_is_finite}
 use Rattle.std.specs.Float.Ieee.{round}
 use Rattle.std.specs.Float.Ieee as Ieee
 
@@ -33,6 +33,4 @@ abbrev pub minus_number : ℕ → Float
 minus_number n = minus_decimal n 1
 
 abbrev pub finite : Float → Bool
-finite nan = false
-finite (inf s) = false
-finite (fin s m e) = true
+finite = float_is_finite

@@ -1,13 +1,9 @@
-// f64: how document 01 writes its numbers and operations, and the test that a float is finite.
+// f64: how document 01 writes its numbers and operations, and complex numbers of them.
 
 #![tactic(auto)]
 
-ghost use Rattle.std.specs.Prelude.{◌≡◌};
-ghost use Rattle.doubles.specs.Doubles.{finite};
-
-// Whether x is strictly between the two infinities, which no NaN is.
-pub fn is_finite(x: f64) -> bool
-    ensures { result ≡ finite x }
-{
-    (-1.0 / 0.0 < x) & (x < 1.0 / 0.0)
+#[derive(Clone, Copy)]
+pub struct Complex {
+    pub re: f64,
+    pub im: f64,
 }

@@ -12,8 +12,8 @@ use lib.Seq.{get_or-set_same, get_or-set_other}
 use mir.Syntax.{w32, w64}
 use mir.Val.{SFits, to_z, of_z}
 use mir.Facts.{to_z-of_z}
-use Rattle.arguments.specs.Phase.{Multipliers}
-use Rattle.arguments.specs.Phase.{Phases}
+use Rattle.arguments.specs.declared.Multipliers.{Multipliers}
+use Rattle.arguments.specs.declared.Phases.{Phases}
 use Rattle.lines.specs.Lines.{multipliers_at, line_phase}
 use Rattle.whole.proofs.Listed.{is_listed}
 use Rattle.whole.proofs.Parts.{fits_abs}

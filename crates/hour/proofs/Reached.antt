@@ -9,8 +9,8 @@ use native.Mathlib.Omega.{arith}
 use lib.Dec.{ltb}
 use lib.IntN.{ℤ, pos, nat_abs, ◌+ℤ◌}
 use Rattle.arguments.specs.declared.Argument.{Argument}
-use Rattle.arguments.specs.Phase.{Multipliers}
-use Rattle.arguments.specs.Phase.{Phases}
+use Rattle.arguments.specs.declared.Multipliers.{Multipliers}
+use Rattle.arguments.specs.declared.Phases.{Phases}
 use Rattle.arguments.specs.Phase.{modulo, multiplier_of, moved_phases}
 use Rattle.arguments.proofs.Moved.{InATurn, moved_twice, moved_by_nothing, phase_unmoved}
 use Rattle.lines.specs.Lines.{multipliers_at, line_phase}

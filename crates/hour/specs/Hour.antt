@@ -1,8 +1,8 @@
 -- Document 02, T-08, "Sines kept with the hour": "six phases and beside them the values for the printed lines".
 use Rattle.std.specs.Prelude.{Bool, cond, List, [], ◌∷◌, ◌≡◌, ℕ, ltb, ℤ, pos, nat_abs, get_or}
 use Rattle.arguments.specs.declared.Argument.{Argument}
-use Rattle.arguments.specs.Phase.{Multipliers}
-use Rattle.arguments.specs.Phase.{Phases}
+use Rattle.arguments.specs.declared.Multipliers.{Multipliers}
+use Rattle.arguments.specs.declared.Phases.{Phases}
 use Rattle.arguments.specs.Phase.{multiplier_of, moved_phases}
 use Rattle.lines.specs.Lines.{multipliers_at, line_phase}
 use Rattle.wave.specs.Wave.{sin, cos}

@@ -1,6 +1,6 @@
 -- Which lines the inner functions work out afresh.
 use Rattle.std.specs.Prelude.{Bool, true}
-use Rattle.arguments.specs.Phase.{Multipliers}
+use Rattle.arguments.specs.declared.Multipliers.{Multipliers}
 use Rattle.hour.specs.declared.Renewed.{Renewed}
 use Rattle.hour.specs.declared.Renewed.TheVariants.{All, Having}
 use Rattle.hour.specs.Hour.{has_argument}

@@ -1,7 +1,8 @@
 -- Digits and the numbers that they write.
-use Rattle.std.proofs.Common.{◌≡◌, ℕ, zero, suc, ◌+◌, ◌-◌, ◌*◌, ◌^◌, ◌<◌, ◌≤◌, Bool, true, false, not, ◌&&◌, T, eqb, List, [], ◌∷◌, ◌++◌, length, get_or, take, drop, sym, refl, ap, ◌∙◌, subst, ap₂, mul-le-mul_right, pow-suc, add-one, arith, drop-cons, take-suc, get_or-append-add, eqb-true}
+use Rattle.std.proofs.Common.{◌≡◌, ℕ, zero, suc, ◌+◌, ◌-◌, ◌*◌, ◌^◌, ◌<◌, ◌≤◌, Bool, true, false, not, ◌&&◌, ltb, List, [], ◌∷◌, ◌++◌, length, get_or, take, drop, sym, refl, ap, ◌∙◌, ap₂, mul-le-mul_right, pow-suc, add-one, arith, take-suc, lt-ltb}
 use native.Mathlib.Nat.{pow-zero}
-use lib.Seq.{drop-length, split_at}
+use Rattle.std.specs.List.{list_all}
+use lib.Seq.{split_at}
 use Rattle.whole.proofs.Tests.{and_left, and_right, both_ends}
 use Rattle.icgem_decimal.specs.Decimal.{is_digit, all_digits, is_empty, is_whole, read_on, value_of}
 
@@ -21,14 +22,6 @@ digit_at [] i e h = absurd (omega arith)
 digit_at (x ∷ l) zero e h = and_left (is_digit x) (all_digits l) e
 digit_at (x ∷ l) (suc i) e h = digit_at l i (and_right (is_digit x) (all_digits l) e) (omega arith)
 
-pub digits_next : (l : List ℕ) (i : ℕ) (r : Bool) → i < length l → r ≡ is_digit (get_or l i 0) → all_digits (drop i l) ≡ (r && all_digits (drop (i + 1) l))
-unfolding all_digits
-digits_next l i r h e = rw (e, add-one, drop-cons l i 0 h)
-
-pub digits_end : (l : List ℕ) (i : ℕ) → length l ≤ i → i ≤ length l → all_digits (drop i l) ≡ true
-unfolding all_digits
-digits_end l i h k = let e : i ≡ length l = omega arith in rw (e, drop-length)
-
 pub digits_drop : (l : List ℕ) (i : ℕ) → all_digits l ≡ true → all_digits (drop i l) ≡ true
 unfolding all_digits
 digits_drop [] zero e = e
@@ -36,28 +29,32 @@ digits_drop [] (suc i) e = e
 digits_drop (x ∷ l) zero e = e
 digits_drop (x ∷ l) (suc i) e = digits_drop l i (and_right (is_digit x) (all_digits l) e)
 
+-- as `all` goes along a text
+pub all_listed : (l : List ℕ) → list_all is_digit l ≡ all_digits l
+unfolding all_digits
+all_listed [] = refl
+all_listed (x ∷ l) = rw (all_listed l)
+
 -- digits are a whole number where there is one
 pub whole-digits : (l : List ℕ) → is_whole l ≡ true → all_digits l ≡ true
 unfolding is_whole
 whole-digits l e = and_right (not (is_empty l)) (all_digits l) e
 
-pub whole_none : (a b : List ℕ) → (eqb (length a) 0 && eqb (length b) 0) ≡ true → false ≡ is_whole (a ++ b)
+pub whole_of : (a b : List ℕ) → is_whole (a ++ b) ≡ (ltb 0 (length a + length b) && (all_digits a && all_digits b))
 unfolding is_whole is_empty
-whole_none [] [] e = refl
-whole_none [] (y ∷ b) e = absurd (omega (arith, eqb-true (suc (length b)) 0 (and_right (eqb 0 0) (eqb (suc (length b)) 0) e)))
-whole_none (x ∷ a) b e = absurd (omega (arith, eqb-true (suc (length a)) 0 (and_left (eqb (suc (length a)) 0) (eqb (length b) 0) e)))
+whole_of [] [] = refl
+whole_of [] (y ∷ b) = digits_append [] (y ∷ b) ∙ rw (lt-ltb 0 (0 + length (y ∷ b)) (omega arith))
+whole_of (x ∷ a) b = digits_append (x ∷ a) b ∙ rw (lt-ltb 0 (length (x ∷ a) + length b) (omega arith))
 
-pub whole_some : (a b : List ℕ) → (eqb (length a) 0 && eqb (length b) 0) ≡ false → (all_digits a && all_digits b) ≡ is_whole (a ++ b)
-unfolding is_whole is_empty
-whole_some [] [] e = absurd (subst T e tt)
-whole_some [] (y ∷ b) e = sym (digits_append [] (y ∷ b))
-whole_some (x ∷ a) b e = sym (digits_append (x ∷ a) b)
+-- each of the digits of two texts
+module _ (a b : List ℕ) (i : ℕ) (e : all_digits (a ++ b) ≡ true) where
+  pub digit_front : i < length a → (48 ≤ get_or a i 0) × (get_or a i 0 ≤ 57)
+  digit_front h = both_ends 48 57 (get_or a i 0) (digit_at a i (and_left (all_digits a) (all_digits b) (sym (digits_append a b) ∙ e)) h)
 
--- what stands past the first of two texts
-pub joint_past : (a b : List ℕ) (i : ℕ) → length a ≤ i → get_or b (i - length a) 0 ≡ get_or (a ++ b) i 0
-joint_past a b i h =
-    let e : length a + (i - length a) ≡ i = omega arith in
-    sym (get_or-append-add a b (i - length a) 0) ∙ ap (λ (k : ℕ). get_or (a ++ b) k 0) e
+  pub digit_behind : length a ≤ i → i < length a + length b → (48 ≤ get_or b (i - length a) 0) × (get_or b (i - length a) 0 ≤ 57)
+  digit_behind h g =
+      both_ends 48 57 (get_or b (i - length a) 0)
+      (digit_at b (i - length a) (and_right (all_digits a) (all_digits b) (sym (digits_append a b) ∙ e)) (omega arith))
 
 -- ---- their numbers
 pub read_append : (n : ℕ) (a b : List ℕ) → read_on n (a ++ b) ≡ read_on (read_on n a) b

@@ -1,9 +1,13 @@
 -- The first piece of a text, and what stands after it.
-use Rattle.std.proofs.Common.{◌≡◌, ℕ, suc, ◌+◌, ◌<◌, ◌≤◌, Bool, true, false, eqb, List, [], ◌∷◌, length, get_or, take, drop, sym, refl, ap, ◌∙◌, add-one, arith, drop_of_length-le, drop-cons, eqb-true}
+use Rattle.std.proofs.Common.{◌≡◌, ℕ, zero, suc, ◌+◌, ◌-◌, ◌<◌, ◌≤◌, Option, Some, None, Bool, true, false, eqb, List, [], ◌∷◌, length, get_or, take, drop, sym, refl, ap, ◌∙◌, arith, eqb-true, length-drop, take_all, drop_of_length-le}
+use Rattle.std.specs.Option.{unwrap_or}
+use denote.Ref.{Bor}
+use lib.Seq.{length-take-le}
 use Rattle.whole.proofs.Tests.{and_left, and_right}
+use Rattle.icgem_words.specs.Inner.{RunTo}
 use Rattle.icgem_words.specs.Words.{on_first, pieces}
 use Rattle.icgem_decimal.specs.Decimal.{is_digit, all_digits, unsigned}
-use Rattle.icgem_decimal.specs.Inner.{before, after}
+use Rattle.icgem_decimal.specs.Inner.{before, after, Parted}
 use Rattle.icgem_decimal.proofs.Tests.{either}
 
 on-first : (b : ℕ) (l : List (List ℕ)) → get_or (on_first b l) 0 [] ≡ b ∷ get_or l 0 []
@@ -110,22 +114,48 @@ module _ (parts : ℕ → Bool) where
       either (eqb b 43) (λ e. rw e (further_length b t (ap parts (eqb-true b 43 e) ∙ P)))
       (λ p. either (eqb b 45) (λ e. rw (p, e) (further_length b t (ap parts (eqb-true b 45 e) ∙ M))) (λ e. rw (p, e)))
 
-  -- a search that has passed i bytes
-  module _ (text : List ℕ) (i : ℕ) where
-    pub passed : i < length text → parts (get_or text i 0) ≡ false → length (before parts (drop i text)) ≡ suc (length (before parts (drop (i + 1) text)))
-    passed h e = rw (add-one, drop-cons text i 0 h) (ap length (before_further (get_or text i 0) (drop (suc i) text) e))
+  -- the first piece ends at the first byte that parts the text, or at its end
+  pub before_length : (text : List ℕ) (n : ℕ) → n ≤ length text → ((k : ℕ) → k < n → parts (get_or text k 0) ≡ false) → (n < length text → parts (get_or text n 0) ≡ true)
+      → length (before parts text) ≡ n
+  unfolding pieces
+  before_length [] n h f s = omega arith
+  before_length (b ∷ t) zero h f s = ap length (before_here b t (s (omega arith)))
+  before_length (b ∷ t) (suc n) h f s =
+      ap length (before_further b t (f 0 (omega arith)))
+      ∙ ap suc (before_length t n (omega arith) (λ k g. f (suc k) (omega arith)) (λ g. s (omega arith)))
 
-    pub stopped : i < length text → parts (get_or text i 0) ≡ true → length (before parts (drop i text)) ≡ 0
-    stopped h e = rw (drop-cons text i 0 h) (ap length (before_here (get_or text i 0) (drop (suc i) text) e))
+-- ---- a text parted
+module _ {parts : ℕ → Bool → Type 0} {text : List ℕ} where
+  pub parted_at : {end : ℕ} {rest : Bor (List ℕ)} → RunTo parts text 0 end → end < length text → rest.now ≡ take (length text - (end + 1)) (drop (end + 1) text)
+      → Parted parts text (take end text) (Some rest)
+  parted_at {end} {rest} r h e =
+      let l : length (take end text) ≡ end = length-take-le end text (omega arith) in
+      let past : end + 1 ≡ suc (length (take end text)) = omega arith in
+      record {
+        run = rw l r;
+        head_is = ap (λ (n : ℕ). take n text) (sym l);
+        rest_is =
+            (omega arith, e ∙ take_all (length text - (end + 1)) (drop (end + 1) text) (omega (arith, length-drop (end + 1) text)) ∙ ap (λ (n : ℕ). drop n text) past);
+      }
 
-    pub ended : length text ≤ i → length (before parts (drop i text)) ≡ 0
-    unfolding pieces
-    ended h = rw (drop_of_length-le text h)
+  module _ {head : List ℕ} {rest : Option (Bor (List ℕ))} (p : Parted parts text head rest) (test : ℕ → Bool)
+      (is : (k : ℕ) (b : Bool) → parts (get_or text k 0) b → b ≡ test (get_or text k 0)) where
+    head_length : length (before test text) ≡ length head
+    head_length = before_length test text (length head) p.run.within (λ k g. sym (is k false (p.run.passed k (omega arith) g))) (λ g. sym (is _ true (p.run.stops g)))
 
-  -- parts from the length of the first piece
-  module _ (text : List ℕ) (end : ℕ) (e : end ≡ length (before parts text)) where
-    pub end_most : end ≤ length text
-    end_most = rw e (before_most text)
+    pub before_is : head ≡ before test text
+    before_is = p.head_is ∙ ap (λ (n : ℕ). take n text) (sym head_length) ∙ before_take test text
 
-    pub part_before : take end text ≡ before parts text
-    part_before = rw e (before_take text)
+    pub rest_none : rest ≡ None → length text ≤ length (before test text)
+    rest_none e = omega (arith, head_length, rw e at p.rest_is)
+
+    pub rest_some : {r : Bor (List ℕ)} → rest ≡ Some r → (length (before test text) < length text) × (r.now ≡ after test text)
+    rest_some e = let h = rw e at p.rest_is in (omega (arith, head_length, h.0), h.1 ∙ ap (λ (n : ℕ). drop (suc n) text) (sym head_length))
+
+    -- what stands behind, empty where nothing does
+    pub rest_or : (none : Bor (List ℕ)) → none.now ≡ [] → (unwrap_or rest none).now ≡ after test text
+    rest_or none e = by_rest rest refl
+      where
+        by_rest : (r : Option (Bor (List ℕ))) → rest ≡ r → (unwrap_or r none).now ≡ after test text
+        by_rest None q = let past : length text ≤ suc (length (before test text)) = omega (arith, rest_none q) in e ∙ sym (drop_of_length-le text past)
+        by_rest (Some r) q = (rest_some q).1

@@ -1,16 +1,13 @@
 -- Digits times a power of ten over another, rounded: exact, cut, or nothing.
-use Rattle.std.proofs.Common.{◌≡◌, ℕ, suc, ◌+◌, ◌-◌, ◌*◌, ◌/◌, ◌^◌, ◌<◌, ◌≤◌, min, Bool, true, false, cond, leb, List, ◌++◌, length, get_or, take, drop, nat_abs, sym, refl, ap, ◌∙◌, ap₂, mul-le-mul_right, mul_assoc, pow-suc, arith, length-append, length-drop, pow-add, leb-false, leb-true}
-use native.Mathlib.Nat.{one-le-pow, pow-le-pow_right, mul-add-div_right, div-eq_of_lt, div-eq_of_lt-le}
+use Rattle.std.proofs.Common.{◌≡◌, ℕ, suc, ◌+◌, ◌-◌, ◌*◌, ◌/◌, ◌^◌, ◌<◌, ◌≤◌, min, Bool, true, false, cond, leb, Option, Some, None, List, ◌++◌, length, get_or, take, drop, nat_abs, sym, refl, ap, subst, ◌∙◌, ap₂, mul-le-mul_right, mul_assoc, pow-suc, arith, length-append, length-drop, pow-add, leb-false, leb-true, take_all}
+use native.Mathlib.Nat.{pow-le-pow_right, mul-add-div_right, div-eq_of_lt, div-eq_of_lt-le}
 use Rattle.whole.proofs.Signed.{abs_signed, nearest_signed, nearest_same}
 use Rattle.whole.proofs.Tests.{both_ends}
 use Rattle.icgem_decimal.specs.Decimal.{all_digits, value_of, Held}
 use Rattle.icgem_decimal.specs.Inner.{rounded, half}
 use Rattle.icgem_decimal.proofs.Digits.{value_split, value_below, digit_at, digits_drop}
-use Rattle.icgem_decimal.proofs.Numbers.{held_far}
+use Rattle.icgem_decimal.proofs.Numbers.{ten_pos, none_larger, grown, held_far}
 use Rattle.icgem_decimal.proofs.Tests.{either}
-
-pub ten_pos : (k : ℕ) → 0 < 10 ^ k
-ten_pos k = one-le-pow k 10 (omega arith)
 
 -- n / d is q / m
 same_rounded : (n d q m : ℕ) → 0 < d → 0 < m → n * m ≡ q * d → rounded n d ≡ rounded q m
@@ -64,6 +61,24 @@ pub rounded_short : (l : List ℕ) (q : ℕ) → all_digits l ≡ true → lengt
 rounded_short l q e h =
     rounded_none (value_of l) (10 ^ q) (omega (arith, value_below l e, pow-suc 10 (length l), pow-le-pow_right (ten_pos 1) h))
 
+-- ---- digits, raised by the powers left or cut where some are wanting
+module _ (l : List ℕ) (up down : ℕ) where
+  pub exact_none : (n : ℕ) → down ≤ up → length l ≤ n → Held None (value_of (take n l)) → Held None (rounded (value_of l * 10 ^ up) (10 ^ down))
+  exact_none n h g m =
+      rw (rounded_exact (value_of l) up down h) (none_larger (value_of l) _ (grown (value_of l) (up - down)) (rw (take_all n l g) at m))
+
+  pub exact : (n v : ℕ) (r : Option ℕ) → down ≤ up → length l ≤ n → v ≡ value_of (take n l) → Held r (v * 10 ^ (up - down)) → Held r (rounded (value_of l * 10 ^ up) (10 ^ down))
+  exact n v r h g e m = rw (rounded_exact (value_of l) up down h, ← take_all n l g, ← e) m
+
+  module _ (digits : all_digits l ≡ true) (h : up ≤ down) where
+    pub lower : (p : ℕ) (r : Option ℕ) → p < length l → down - up ≤ length l → p ≡ length l - (down - up) → Held r (value_of (take p l) + half (get_or l p 0)) → Held r (rounded (value_of l * 10 ^ up) (10 ^ down))
+    lower p r g k e m =
+        let q : down - up ≡ length l - p = omega arith in
+        rw (rounded_lower (value_of l) up down h, q, rounded_cut l p digits g) m
+
+    pub lower_none : length l < down - up → Held (Some 0) (rounded (value_of l * 10 ^ up) (10 ^ down))
+    lower_none g = rw (rounded_lower (value_of l) up down h, rounded_short l (down - up) digits g) (omega arith, refl)
+
 -- ---- an exponent v read as x, which is at most a million
 pub record Read (l : List ℕ) (places f v x : ℕ) : Type 0 where
   pub digits : all_digits l ≡ true
@@ -72,27 +87,27 @@ pub record Read (l : List ℕ) (places f v x : ℕ) : Type 0 where
   pub few : places ≤ 15
   pub capped : x ≡ min v 1000000
 
-pub read : (a b text : List ℕ) (places x : ℕ) → all_digits (a ++ b) ≡ true → length a + length b ≤ 131072 → places ≤ 15 → x ≡ min (value_of text) 1000000
-    → Read (a ++ b) places (length b) (value_of text) x
-read a b text places x D S P X =
+pub read : (a b : List ℕ) (places v x : ℕ) → all_digits (a ++ b) ≡ true → length a + length b ≤ 131072 → places ≤ 15 → x ≡ min v 1000000
+    → Read (a ++ b) places (length b) v x
+read a b places v x D S P X =
     let n = length-append a b in
     record { digits = D; short = omega arith; fraction = omega arith; few = P; capped = X }
 
 module _ {l : List ℕ} {places f v x : ℕ} (g : Read l places f v x) where
-  far_up : {o : Bool} {r : ℕ} → 1000000 ≤ v → Held o r (rounded (value_of l * 10 ^ (places + x)) (10 ^ f)) → Held o r (rounded (value_of l * 10 ^ (places + v)) (10 ^ f))
-  far_up h m =
+  far_up : (r : Option ℕ) → 1000000 ≤ v → Held r (rounded (value_of l * 10 ^ (places + x)) (10 ^ f)) → Held r (rounded (value_of l * 10 ^ (places + v)) (10 ^ f))
+  far_up r h m =
       rw (rounded_exact (value_of l) (places + v) f (omega arith))
-      (held_far (value_of l) (places + x - f) (places + v - f) (omega arith) (omega arith) (rw (rounded_exact (value_of l) (places + x) f (omega arith)) at m))
+      (held_far r (value_of l) (places + x - f) (places + v - f) (omega arith) (omega arith) (rw (rounded_exact (value_of l) (places + x) f (omega arith)) at m))
 
-  pub capped_up : {o : Bool} {r : ℕ} → Held o r (rounded (value_of l * 10 ^ (places + x)) (10 ^ f)) → Held o r (rounded (value_of l * 10 ^ (places + v)) (10 ^ f))
-  capped_up m =
-      either (leb 1000000 v) (λ t. far_up (leb-true 1000000 v t) m)
-      (λ t. let e : v ≡ x = omega (arith, leb-false 1000000 v t) in rw e m)
+  pub capped_up : (r : Option ℕ) → Held r (rounded (value_of l * 10 ^ (places + x)) (10 ^ f)) → Held r (rounded (value_of l * 10 ^ (places + v)) (10 ^ f))
+  capped_up r m =
+      either (leb 1000000 v) (λ t. far_up r (leb-true 1000000 v t) m)
+      (λ t. let e : v ≡ x = omega (arith, leb-false 1000000 v t) in subst (λ (k : ℕ). Held r (rounded (value_of l * 10 ^ (places + k)) (10 ^ f))) (sym e) m)
 
   tiny : (j : ℕ) → 1000000 ≤ j → rounded (value_of l * 10 ^ places) (10 ^ (f + j)) ≡ 0
   tiny j h = rounded_lower (value_of l) places (f + j) (omega arith) ∙ rounded_short l (f + j - places) g.digits (omega arith)
 
-  pub capped_down : {o : Bool} {r : ℕ} → Held o r (rounded (value_of l * 10 ^ places) (10 ^ (f + x))) → Held o r (rounded (value_of l * 10 ^ places) (10 ^ (f + v)))
-  capped_down m =
-      either (leb 1000000 v) (λ t. let h = leb-true 1000000 v t in rw (tiny v h, ← tiny x (omega arith)) m)
-      (λ t. let e : v ≡ x = omega (arith, leb-false 1000000 v t) in rw e m)
+  pub capped_down : (r : Option ℕ) → Held r (rounded (value_of l * 10 ^ places) (10 ^ (f + x))) → Held r (rounded (value_of l * 10 ^ places) (10 ^ (f + v)))
+  capped_down r m =
+      either (leb 1000000 v) (λ t. let h = leb-true 1000000 v t in rw (tiny v h) (rw (tiny x (omega arith)) at m))
+      (λ t. let e : v ≡ x = omega (arith, leb-false 1000000 v t) in subst (λ (k : ℕ). Held r (rounded (value_of l * 10 ^ places) (10 ^ (f + k)))) (sym e) m)

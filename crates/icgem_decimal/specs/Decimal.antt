@@ -1,7 +1,10 @@
 -- Whole numbers and decimals of a gravity field file (document 02, T-10: "each decimal taken exactly and rounded once to nearest").
-use Rattle.std.specs.Prelude.{◌≡◌, ℕ, ◌+◌, ◌-◌, ◌*◌, ◌^◌, Bool, true, false, cond, not, ◌&&◌, ◌||◌, List, [], ◌∷◌, ◌++◌, length, ℤ, ◌==◌, nat_le, slice_index_or, unsigned_abs}
+use Rattle.std.specs.Prelude.{◌≡◌, ℕ, ◌+◌, ◌-◌, ◌*◌, ◌^◌, Bool, true, false, cond, not, ◌&&◌, ◌||◌, List, [], ◌∷◌, ◌++◌, length, ℤ, ◌==◌, nat_le, ◌<◌, slice_index_or, unsigned_abs, Option, Some, None, Result, Ok, Err, SomeIff}
 use Rattle.whole.specs.Nearest.{signed, nearest}
 use Rattle.icgem_words.specs.Words.{pieces}
+use Rattle.icgem_decimal.specs.declared.Decimal.{Decimal}
+use Rattle.icgem_decimal.specs.declared.WholeError.{WholeError}
+use Rattle.icgem_decimal.specs.declared.WholeError.TheVariants.{NotWhole, TooLarge}
 
 -- ---- Whole numbers: one or more digits and nothing else
 -- the digits 0 to 9 are the bytes 48 to 57
@@ -90,18 +93,20 @@ in_units places word =
     (10 ^ (length (fraction_digits word) + exponent_down word))
 
 -- ---- What the functions answer
--- a number, told whole where it is below 2^64
-pub record Held (over : Bool) (value n : ℕ) : Type 0 where
-  pub over_is : over ≡ nat_le (2 ^ 64) n
-  pub value_is : over ≡ false → value ≡ n
+-- a number, told where it is below 2^64
+abbrev pub Held : Option ℕ → ℕ → Type 0
+Held number n = SomeIff number (n < 2 ^ 64) n
 
 -- a word's whole number, where the word is one
-pub record WholeTaken (word : List ℕ) (ok over : Bool) (value : ℕ) : Type 0 where
-  pub ok_is : ok ≡ is_whole word
-  pub number_is : ok ≡ true → Held over value (value_of word)
+abbrev pub WholeTaken : List ℕ → Result ℕ WholeError → Type 0
+WholeTaken word (Ok number) = (is_whole word ≡ true) × Held (Some number) (value_of word)
+WholeTaken word (Err NotWhole) = is_whole word ≡ false
+WholeTaken word (Err TooLarge) = (is_whole word ≡ true) × Held None (value_of word)
 
 -- a word's decimal in units of 10^-places, where the word is one
-pub record Taken (places : ℕ) (word : List ℕ) (ok negative over : Bool) (size : ℕ) : Type 0 where
-  pub ok_is : ok ≡ is_decimal word
-  pub over_is : ok ≡ true → over ≡ nat_le (2 ^ 64) (unsigned_abs (in_units places word))
-  pub value_is : ok ≡ true → over ≡ false → in_units places word ≡ signed negative size
+abbrev pub Taken : ℕ → List ℕ → Option Decimal → Type 0
+Taken places word None = is_decimal word ≡ false
+Taken places word (Some d) =
+    (is_decimal word ≡ true)
+    × (Held d.size (unsigned_abs (in_units places word))
+    × ((size : ℕ) → d.size ≡ Some size → in_units places word ≡ signed d.negative size))

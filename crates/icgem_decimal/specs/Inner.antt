@@ -1,13 +1,11 @@
 -- What the functions that take a word apart and read its digits say to one another.
-use Rattle.std.specs.Prelude.{ℕ, suc, ◌+◌, ◌-◌, ◌*◌, ◌/◌, ◌^◌, Bool, true, false, cond, List, [], ◌++◌, length, drop, replicate, nat_le, slice_index_or}
+use Rattle.std.specs.Prelude.{ℕ, suc, ◌+◌, ◌-◌, ◌*◌, ◌/◌, ◌^◌, ◌≡◌, ◌<◌, Bool, cond, List, [], ◌++◌, length, take, drop, replicate, nat_le, slice_index_or, Option, MatchOption}
+use denote.Ref.{Bor}
+use Rattle.icgem_words.specs.Inner.{RunTo}
 use Rattle.icgem_words.specs.Words.{pieces}
-use Rattle.icgem_decimal.specs.Decimal.{is_letter, is_dot, is_minus, unsigned, value_of, Held}
+use Rattle.icgem_decimal.specs.Decimal.{value_of}
 
 -- ---- Numbers
--- whatever number the first holds, the second holds its image
-pub record Mapped (f : ℕ → ℕ) (over : Bool) (value : ℕ) (over' : Bool) (value' : ℕ) : Type 0 where
-  pub each : (n : ℕ) → Held over value n → Held over' value' (f n)
-
 -- n / d, rounded, a half up
 abbrev pub rounded : ℕ → ℕ → ℕ
 rounded n d = (n + d / 2) / d
@@ -17,11 +15,6 @@ abbrev pub half : ℕ → ℕ
 half b = cond (nat_le 53 b) 1 0
 
 -- ---- Parts of a word
--- the letter of the exponent, or the dot
-abbrev pub parting : Bool → ℕ → Bool
-parting true = is_letter
-parting false = is_dot
-
 abbrev pub before : (ℕ → Bool) → List ℕ → List ℕ
 before parts text = slice_index_or (pieces parts text) 0 []
 
@@ -29,16 +22,16 @@ before parts text = slice_index_or (pieces parts text) 0 []
 abbrev pub after : (ℕ → Bool) → List ℕ → List ℕ
 after parts text = drop (suc (length (before parts text))) text
 
--- ten's powers of an exponent with its sign
-abbrev pub up : List ℕ → ℕ
-up text = cond (is_minus text) 0 (value_of (unsigned text))
+-- the parts of a text that no byte but the first that parts it stands between, by the answers of a test
+pub record Parted (parts : ℕ → Bool → Type 0) (text head : List ℕ) (rest : Option (Bor (List ℕ))) : Type 0 where
+  pub run : RunTo parts text 0 (length head)
+  pub head_is : head ≡ take (length head) text
+  pub rest_is : MatchOption rest (length head ≡ length text) (λ r. (length head < length text) × (r.now ≡ drop (suc (length head)) text))
 
-abbrev pub down : List ℕ → ℕ
-down text = cond (is_minus text) (value_of (unsigned text)) 0
-
--- digits before and after the dot, in units of 10^-places
-abbrev pub in_places : ℕ → List ℕ → List ℕ → List ℕ → ℕ
-in_places places a b exponent = rounded (value_of (a ++ b) * 10 ^ (places + up exponent)) (10 ^ (length b + down exponent))
+-- digits before and after the dot, in units of 10^-places, with an exponent of a sign and a size
+abbrev pub in_places : ℕ → List ℕ → List ℕ → Bool → ℕ → ℕ
+in_places places a b negative size =
+    rounded (value_of (a ++ b) * 10 ^ (places + cond negative 0 size)) (10 ^ (length b + cond negative size 0))
 
 -- ---- Numbers compared
 -- n digits, zeros standing before the text's

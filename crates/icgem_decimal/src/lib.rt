@@ -2,347 +2,255 @@
 
 #![tactic(auto)]
 
-ghost use Rattle.std.specs.Prelude.{◌≡◌, ◌+◌, ◌-◌, ◌*◌, ◌^◌, ◌<◌, ◌≤◌, min, max, true, ◌++◌, length, take, ◌==◌, nat_le, slice_index};
-ghost use Rattle.icgem_decimal.specs.Decimal.{is_digit, all_digits, is_whole, is_minus, unsigned, value_of, is_exponent, Held, WholeTaken, Taken};
-ghost use Rattle.icgem_decimal.specs.Inner.{Mapped, rounded, half, parting, before, after, in_places, padded};
+ghost use Rattle.std.specs.Prelude.{◌≡◌, ◌+◌, ◌-◌, ◌*◌, ◌^◌, ◌<◌, ◌≤◌, ℕ, min, true, false, ◌++◌, [], length, take, ◌==◌, ◌||◌, nat_le, slice_index, is_some, IfSome};
+ghost use Rattle.std.specs.Ordering.{nat_cmp};
+ghost use Rattle.icgem_decimal.specs.Decimal.{is_letter, is_dot, all_digits, is_whole, is_minus, unsigned, is_exponent, is_mantissa, mantissa, value_of, Held, WholeTaken, Taken};
+ghost use Rattle.icgem_decimal.specs.Inner.{rounded, half, before, after, in_places, padded, Parted};
 
-// A number, or that it is 2^64 or more.
-#[derive(Clone, Copy)]
-struct Sum {
-    over: bool,
-    value: u64,
+use std::cmp::Ordering;
+
+// Why a word has no whole number that fits.
+#[derive(Clone, Copy, Debug, PartialEq, Eq)]
+pub enum WholeError {
+    NotWhole,
+    // 2^64 or more.
+    TooLarge,
 }
 
-#[derive(Clone, Copy)]
-pub struct Whole {
-    pub ok: bool,
-    pub over: bool,
-    pub value: u64,
-}
-
-#[derive(Clone, Copy)]
+// A decimal in whole units, with no size where that is 2^64 or more.
+#[derive(Clone, Copy, Debug, PartialEq, Eq)]
 pub struct Decimal {
-    pub ok: bool,
     pub negative: bool,
-    pub over: bool,
-    pub size: u64,
-}
-
-// Ten times a number, and a digit.
-fn next(s: Sum, digit: u64) -> Sum
-    requires { digit ≤ 9 }
-    ensures { Mapped (λ n. 10 * n + digit) s.over s.value result.over result.value }
-{
-    if s.over {
-        return s;
-    }
-    let value = s.value;
-    if (18446744073709551615 - digit) / 10 < value {
-        Sum {
-            over: true,
-            value: 0,
-        }
-    } else {
-        Sum {
-            over: false,
-            value: 10 * value + digit,
-        }
-    }
-}
-
-fn is_digit(b: u8) -> bool
-    ensures { result ≡ is_digit b }
-{
-    (b'0' <= b) & (b <= b'9')
+    pub size: Option<u64>,
 }
 
 fn all_digits(text: &[u8]) -> bool
     ensures { result ≡ all_digits text.now }
 {
-    let mut i = 0;
-    while i < text.len() {
-        if is_digit(text[i]) {
-            i += 1;
-        } else {
-            return false;
-        }
-    }
-    true
-}
-
-fn digit_of(b: u8) -> u64
-    requires { is_digit b ≡ true }
-    ensures { (result ≡ b - 48) × (result ≤ 9) }
-{
-    (b - b'0') as u64
-}
-
-// A byte of two texts, one after the other.
-fn byte_at(a: &[u8], b: &[u8], i: usize) -> u8
-    requires { i < length a.now + length b.now }
-    ensures { result ≡ slice_index (a.now ++ b.now) i }
-{
-    if i < a.len() { a[i] } else { b[i - a.len()] }
-}
-
-// The number of the first digits of two texts, one after the other.
-fn read_first(a: &[u8], b: &[u8], count: usize) -> Sum
-    requires b_value { all_digits (a.now ++ b.now) ≡ true }
-    requires count_in_bounds { count ≤ length a.now + length b.now }
-    ensures { Held result.over result.value (value_of (take count (a.now ++ b.now))) }
-{
-    let mut s = Sum {
-        over: false,
-        value: 0,
-    };
-    let mut i = 0;
-    while i < count {
-        s = next(s, digit_of(byte_at(a, b, i)));
-        i += 1;
-    }
-    s
+    text.iter().all(|b| b.is_ascii_digit())
 }
 
 // Whether two texts, one after the other, are digits and nothing else, one at least.
 fn is_whole(a: &[u8], b: &[u8]) -> bool
     ensures { result ≡ is_whole (a.now ++ b.now) }
 {
-    if (a.len() == 0) & (b.len() == 0) {
-        false
-    } else {
-        all_digits(a) & all_digits(b)
+    0 < a.len() + b.len() && all_digits(a) && all_digits(b)
+}
+
+// Times 10^k. 10^20 is past 2^64, so that twenty turns are enough for every number.
+fn raised(n: u64, k: usize) -> Option<u64>
+    ensures { Held result (n * 10 ^ k) }
+{
+    let mut product = n;
+    for _ in 0..k.min(20) {
+        product = product.checked_mul(10)?;
+    }
+    Some(product)
+}
+
+// The digits of two texts, one after the other: those before a dot and those behind it.
+#[derive(Clone, Copy)]
+struct Numeral<'a> {
+    whole: &'a [u8],
+    fraction: &'a [u8],
+    ghost are_digits: { all_digits (whole.now ++ fraction.now) ≡ true },
+}
+
+impl<'a> Numeral<'a> {
+    // None where there is no digit, or anything else.
+    fn of(whole: &'a [u8], fraction: &'a [u8]) -> Option<Self>
+        ensures whole { is_whole (whole.now ++ fraction.now) ≡ is_some result }
+        ensures parts { IfSome result (λ d. (d.whole.now ≡ whole.now) × (d.fraction.now ≡ fraction.now)) }
+    {
+        if is_whole(whole, fraction) {
+            Some(Self { whole, fraction })
+        } else {
+            None
+        }
+    }
+
+    fn len(self) -> usize
+        ensures { result ≡ length self.entry.whole.now + length self.entry.fraction.now }
+    {
+        self.whole.len() + self.fraction.len()
+    }
+
+    fn byte_at(self, i: usize) -> u8
+        requires { i < length self.whole.now + length self.fraction.now }
+        ensures value { result ≡ slice_index (self.entry.whole.now ++ self.entry.fraction.now) i }
+        ensures digit { (48 ≤ result) × (result ≤ 57) }
+    {
+        if i < self.whole.len() {
+            self.whole[i]
+        } else {
+            self.fraction[i - self.whole.len()]
+        }
+    }
+
+    // The number of the first digits.
+    fn first(self, count: usize) -> Option<u64>
+        requires { count ≤ length self.whole.now + length self.fraction.now }
+        ensures { Held result (value_of (take count (self.entry.whole.now ++ self.entry.fraction.now))) }
+    {
+        let mut n: u64 = 0;
+        for i in 0..count {
+            n = n
+                .checked_mul(10)?
+                .checked_add(u64::from(self.byte_at(i) - b'0'))?;
+        }
+        Some(n)
+    }
+
+    // The number of the first digits, and one more where the digit after them is 5 or more.
+    fn cut(self, count: usize) -> Option<u64>
+        requires { count < length self.whole.now + length self.fraction.now }
+        ensures { Held result (value_of (take count (self.entry.whole.now ++ self.entry.fraction.now)) + half (slice_index (self.entry.whole.now ++ self.entry.fraction.now) count)) }
+    {
+        self.first(count)?
+            .checked_add(u64::from(b'5' <= self.byte_at(count)))
+    }
+
+    // Times 10^up over 10^down, rounded.
+    fn scaled(self, up: usize, down: usize) -> Option<u64>
+        ensures { Held result (rounded (value_of (self.entry.whole.now ++ self.entry.fraction.now) * 10 ^ up) (10 ^ down)) }
+    {
+        if down <= up {
+            return raised(self.first(self.len())?, up - down);
+        }
+        match self.len().checked_sub(down - up) {
+            Some(count) => self.cut(count),
+            None => Some(0),
+        }
+    }
+
+    // In units of 10^-places, with an exponent. One of a million or more decides alone, there being fewer digits.
+    fn in_places(self, exponent: Exponent, places: usize) -> Option<u64>
+        requires len_bound { length self.whole.now + length self.fraction.now ≤ 131072 }
+        requires places_bound { places ≤ 15 }
+        ensures { (size : ℕ) → exponent.size ≡ min size 1000000
+            → Held result (in_places places self.entry.whole.now self.entry.fraction.now exponent.negative size) }
+    {
+        let dropped = self.fraction.len();
+        if exponent.negative {
+            self.scaled(places, dropped + exponent.size)
+        } else {
+            self.scaled(places + exponent.size, dropped)
+        }
+    }
+
+    // The number, or a million where it is more.
+    fn capped(self) -> usize
+        ensures { result ≡ min (value_of (self.entry.whole.now ++ self.entry.fraction.now)) 1000000 }
+    {
+        let mut n: usize = 0;
+        for i in 0..self.len() {
+            n = (10 * n + usize::from(self.byte_at(i) - b'0')).min(1000000);
+        }
+        n
     }
 }
 
 // A word's whole number: digits and nothing else.
-pub fn whole_number(word: &[u8]) -> Whole
-    ensures { WholeTaken word.now result.ok result.over result.value }
+pub fn whole_number(word: &[u8]) -> Result<u64, WholeError>
+    ensures { WholeTaken word.now result }
 {
-    let none = &word[..0];
-    if is_whole(word, none) {
-        let n = read_first(word, none, word.len());
-        Whole {
-            ok: true,
-            over: n.over,
-            value: n.value,
-        }
-    } else {
-        Whole {
-            ok: false,
-            over: false,
-            value: 0,
-        }
-    }
+    let numeral = Numeral::of(&[], word).ok_or(WholeError::NotWhole)?;
+    numeral.first(numeral.len()).ok_or(WholeError::TooLarge)
 }
 
-fn least(a: usize, b: usize) -> usize
-    ensures { result ≡ min a b }
+fn is_letter(b: u8) -> bool
+    ensures { result ≡ is_letter b }
 {
-    if a < b { a } else { b }
+    matches!(b, b'E' | b'e' | b'D' | b'd')
 }
 
-// Times 10^k. 10^20 is past 2^64, so that twenty turns are enough for every number.
-fn raised(s: Sum, k: usize) -> Sum
-    ensures { Mapped (λ n. n * 10 ^ k) s.over s.value result.over result.value }
+fn is_dot(b: u8) -> bool
+    ensures { result ≡ is_dot b }
 {
-    let times = least(k, 20);
-    let mut t = s;
-    let mut i = 0;
-    while i < times {
-        t = next(t, 0);
-        i += 1;
-    }
-    t
+    b == b'.'
 }
 
-fn one_more(s: Sum) -> Sum
-    ensures { Mapped (λ n. n + 1) s.over s.value result.over result.value }
+// What stands before the first byte that parts a text, and what stands behind it.
+fn parted<F: Fn(u8) -> bool>(text: &[u8], parts: F) -> (&[u8], Option<&[u8]>)
+    requires { F.IsAlwaysCallable parts }
+    ensures { Parted (F.post parts) text.now result.0.now result.1 }
 {
-    if s.over {
-        return s;
-    }
-    let value = std::num::wrapping_add_u64(s.value, 1);
-    Sum {
-        over: value == 0,
-        value,
-    }
-}
-
-// The number of the first digits, and one more where the digit after them is 5 or more.
-fn cut(a: &[u8], b: &[u8], count: usize) -> Sum
-    requires b_value { all_digits (a.now ++ b.now) ≡ true }
-    requires count_in_bounds { count < length a.now + length b.now }
-    ensures { Held result.over result.value (value_of (take count (a.now ++ b.now)) + half (slice_index (a.now ++ b.now) count)) }
-{
-    let s = read_first(a, b, count);
-    if b'5' <= byte_at(a, b, count) {
-        one_more(s)
-    } else {
-        s
-    }
-}
-
-// Digits times 10^up over 10^down, rounded.
-fn scaled(a: &[u8], b: &[u8], up: usize, down: usize) -> Sum
-    requires b_value { all_digits (a.now ++ b.now) ≡ true }
-    requires b_len_bound { length a.now + length b.now ≤ 131072 }
-    ensures { Held result.over result.value (rounded (value_of (a.now ++ b.now) * 10 ^ up) (10 ^ down)) }
-{
-    let digits = a.len() + b.len();
-    if down <= up {
-        return raised(read_first(a, b, digits), up - down);
-    }
-    let places = down - up;
-    if digits < places {
-        Sum {
-            over: false,
-            value: 0,
-        }
-    } else {
-        cut(a, b, digits - places)
-    }
-}
-
-// The number of digits, or a million where it is more.
-fn read_capped(text: &[u8]) -> usize
-    requires { all_digits text.now ≡ true }
-    ensures { result ≡ min (value_of text.now) 1000000 }
-{
-    let mut n: usize = 0;
-    let mut i = 0;
-    while i < text.len() {
-        n = least(10 * n + digit_of(text[i]) as usize, 1000000);
-        i += 1;
-    }
-    n
-}
-
-// Whether a byte is the letter of an exponent, E, e, D or d, or the dot.
-fn is_parting(letter: bool, b: u8) -> bool
-    ensures { result ≡ parting letter b }
-{
-    if letter {
-        ((b == b'E') | (b == b'e')) | ((b == b'D') | (b == b'd'))
-    } else {
-        b == b'.'
-    }
-}
-
-fn first_length(text: &[u8], letter: bool) -> usize
-    ensures { result ≡ length (before (parting letter) text.now) }
-{
-    let mut i = 0;
-    while i < text.len() {
-        if is_parting(letter, text[i]) {
-            return i;
-        }
-        i += 1;
-    }
-    i
-}
-
-fn part_before(text: &[u8], letter: bool) -> &[u8]
-    ensures { result.now ≡ before (parting letter) text.now }
-{
-    let end = first_length(text, letter);
-    &text[..end]
-}
-
-fn part_after(text: &[u8], letter: bool) -> &[u8]
-    ensures { result.now ≡ after (parting letter) text.now }
-{
-    let end = first_length(text, letter);
+    let end = icgem_words::run_end(text, 0, parts);
     if end < text.len() {
-        &text[end + 1..]
+        (&text[..end], Some(&text[end + 1..]))
     } else {
-        &text[end..]
+        (text, None)
     }
 }
 
 fn is_minus(text: &[u8]) -> bool
     ensures { result ≡ is_minus text.now }
 {
-    if text.len() == 0 {
-        false
-    } else {
-        text[0] == b'-'
-    }
+    text.first() == Some(&b'-')
+}
+
+fn is_sign(b: u8) -> bool
+    ensures { result ≡ (b == 43 || b == 45) }
+{
+    matches!(b, b'+' | b'-')
 }
 
 fn without_sign(text: &[u8]) -> &[u8]
     ensures { result.now ≡ unsigned text.now }
 {
-    if text.len() == 0 {
-        return text;
-    }
-    let b = text[0];
-    if (b == b'+') | (b == b'-') {
-        &text[1..]
-    } else {
-        text
+    match text {
+        [sign, rest @ ..] if is_sign(*sign) => rest,
+        _ => text,
     }
 }
 
-fn is_exponent(word: &[u8]) -> bool
-    ensures { result ≡ is_exponent word.now }
-{
-    let end = first_length(word, true);
-    if end < word.len() {
-        let exponent = without_sign(part_after(word, true));
-        is_whole(exponent, &exponent[..0])
-    } else {
-        true
-    }
+// Ten's power, its size a million where it is more.
+#[derive(Clone, Copy)]
+struct Exponent {
+    negative: bool,
+    size: usize,
+    ghost capped: { size ≤ 1000000 },
 }
 
-// Digits with an exponent, in units of 10^-places. An exponent of a million or more decides alone, there being fewer digits.
-fn in_places(a: &[u8], b: &[u8], exponent: &[u8], places: usize) -> Sum
-    requires b_value { all_digits (a.now ++ b.now) ≡ true }
-    requires exponent_value { all_digits (unsigned exponent.now) ≡ true }
-    requires b_len_bound { length a.now + length b.now ≤ 131072 }
-    requires places_bound { places ≤ 15 }
-    ensures { Held result.over result.value (in_places places a.now b.now exponent.now) }
+// What stands behind a word's letter, where that is a whole number after its sign, or zero where there is no letter.
+fn exponent_of(word: &[u8]) -> Option<Exponent>
+    ensures exponent { is_exponent word.now ≡ is_some result }
+    ensures parts { IfSome result (λ e. (e.negative ≡ is_minus (after is_letter word.now)) × (e.size ≡ min (value_of (unsigned (after is_letter word.now))) 1000000)) }
 {
-    let by = read_capped(without_sign(exponent));
-    if is_minus(exponent) {
-        scaled(a, b, places, b.len() + by)
-    } else {
-        scaled(a, b, places + by, b.len())
-    }
+    let Some(text) = parted(word, is_letter).1 else {
+        return Some(Exponent {
+            negative: false,
+            size: 0,
+        });
+    };
+    let numeral = Numeral::of(&[], without_sign(text))?;
+    Some(Exponent {
+        negative: is_minus(text),
+        size: numeral.capped(),
+    })
+}
+
+// The digits before a word's letter, with a dot or none among them.
+fn numeral_of(word: &[u8]) -> Option<Numeral>
+    ensures mantissa { is_mantissa word.now ≡ is_some result }
+    ensures parts { IfSome result (λ d. (d.whole.now ≡ before is_dot (mantissa word.now)) × (d.fraction.now ≡ after is_dot (mantissa word.now))) }
+{
+    let (whole, fraction) = parted(without_sign(parted(word, is_letter).0), is_dot);
+    Numeral::of(whole, fraction.unwrap_or(&[]))
 }
 
 // A word's decimal in units of 10^-places, rounded once.
-pub fn in_units(word: &[u8], places: usize) -> Decimal
+pub fn in_units(word: &[u8], places: usize) -> Option<Decimal>
     requires places_bound { places ≤ 15 }
     requires word_len_bound { length word.now ≤ 131072 }
-    ensures { Taken places word.now result.ok result.negative result.over result.size }
+    ensures { Taken places word.now result }
 {
-    let digits = without_sign(part_before(word, true));
-    let a = part_before(digits, false);
-    let b = part_after(digits, false);
-    if is_exponent(word) {
-        if is_whole(a, b) {
-            let n = in_places(a, b, part_after(word, true), places);
-            return Decimal {
-                ok: true,
-                negative: is_minus(word),
-                over: n.over,
-                size: n.value,
-            };
-        }
-    }
-    Decimal {
-        ok: false,
-        negative: false,
-        over: false,
-        size: 0,
-    }
-}
-
-fn greatest(a: usize, b: usize) -> usize
-    ensures { result ≡ max a b }
-{
-    if a < b { b } else { a }
+    let exponent = exponent_of(word)?;
+    let numeral = numeral_of(word)?;
+    Some(Decimal {
+        negative: is_minus(word),
+        size: numeral.in_places(exponent, places),
+    })
 }
 
 // A digit of a text that zeros before it make n digits long.
@@ -355,26 +263,28 @@ fn padded_at(text: &[u8], n: usize, i: usize) -> u8
     if i < zeros { b'0' } else { text[i - zeros] }
 }
 
-// Whether a whole number is at most another, of any length: the first digit that differs decides.
+// The order of two whole numbers of any length: the first digit that differs decides.
+pub fn compare(a: &[u8], b: &[u8]) -> Ordering
+    requires a_value { is_whole a.now ≡ true }
+    requires b_value { is_whole b.now ≡ true }
+    ensures { result ≡ nat_cmp (value_of a.now) (value_of b.now) }
+{
+    let n = a.len().max(b.len());
+    for i in 0..n {
+        let order = padded_at(a, n, i).cmp(&padded_at(b, n, i));
+        if order.is_ne() {
+            return order;
+        }
+    }
+    Ordering::Equal
+}
+
 pub fn at_most(a: &[u8], b: &[u8]) -> bool
     requires a_value { is_whole a.now ≡ true }
     requires b_value { is_whole b.now ≡ true }
     ensures { result ≡ nat_le (value_of a.now) (value_of b.now) }
 {
-    let n = greatest(a.len(), b.len());
-    let mut i = 0;
-    while i < n {
-        let x = padded_at(a, n, i);
-        let y = padded_at(b, n, i);
-        if x < y {
-            return true;
-        }
-        if y < x {
-            return false;
-        }
-        i += 1;
-    }
-    true
+    compare(a, b).is_le()
 }
 
 pub fn same_number(a: &[u8], b: &[u8]) -> bool
@@ -382,5 +292,5 @@ pub fn same_number(a: &[u8], b: &[u8]) -> bool
     requires b_value { is_whole b.now ≡ true }
     ensures { result ≡ (value_of a.now == value_of b.now) }
 {
-    at_most(a, b) & at_most(b, a)
+    compare(a, b).is_eq()
 }

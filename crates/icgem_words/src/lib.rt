@@ -19,7 +19,7 @@ pub fn is_blank(b: u8) -> bool
 }
 
 // The first byte at or after a place that ends a run, or the text's end.
-fn run_end<F: Fn(u8) -> bool>(text: &[u8], from: usize, ends: F) -> usize
+pub fn run_end<F: Fn(u8) -> bool>(text: &[u8], from: usize, ends: F) -> usize
     requires from_in_bounds { from ≤ length text.now }
     requires ends_callable { F.IsAlwaysCallable ends }
     ensures { RunTo (F.post ends) text.now from result }

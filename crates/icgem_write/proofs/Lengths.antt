@@ -25,7 +25,7 @@ entry_length keyword value h =
     let p = padded (53 - length keyword) value in
     omega (arith, length-append (keyword ++ p) (ascii "\n"), length-append keyword p, padded_length (53 - length keyword) value (omega arith))
 
-name_length : (system : PermanentSystem) → length (system_name system) ≡ 9
+pub name_length : (system : PermanentSystem) → length (system_name system) ≡ 9
 unfolding system_name ascii
 name_length TideFree = refl
 name_length Zero = refl

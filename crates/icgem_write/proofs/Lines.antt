@@ -1,8 +1,8 @@
 -- A line is put: an entry of the header, or a place's.
 use mathlib.Core.Path.{◌≡◌, refl}
 use mathlib.Core.Bool.{Bool, true, false}
-use mathlib.Core.List.{List, [], ◌∷◌, ◌++◌}
-use Prim.Native.Nat.{ℕ, ◌+◌, ◌-◌, ◌*◌, ◌/◌, ◌^◌, ◌≤◌, ◌<◌}
+use mathlib.Core.List.{List, ◌++◌}
+use Prim.Native.Nat.{ℕ, suc, ◌+◌, ◌*◌, ◌/◌, ◌^◌, ◌≤◌, ◌<◌}
 use native.Mathlib.Numerals.{add-one}
 use native.Mathlib.Omega.{arith}
 use borrow.Author.Tests.{le-ltb}
@@ -12,42 +12,27 @@ use lib.ListN.{length, length-append}
 use lib.Signed.{lt_z}
 use Rattle.field.specs.Field.{size, place}
 use Rattle.field.proofs.Accepted.{place_below}
-use Rattle.text.specs.Inner.{Put}
-use Rattle.text.specs.Text.{ascii, decimal, fixed_point, sign, padded}
-use Rattle.text.proofs.Puts.{put_then, put_length}
-use Rattle.text.proofs.Columns.{padded_length, fixed_length}
+use Rattle.text.specs.declared.Page.{Page}
+use Rattle.text.specs.Text.{ascii, decimal, fixed_point, sign}
+use Rattle.text.proofs.Puts.{puts_then, puts_none}
+use Rattle.text.proofs.Columns.{fixed_length}
 use Rattle.text.proofs.Decimals.{digits_most}
-use Rattle.icgem_write.specs.Inner.{PutLines, Has}
-use Rattle.icgem_write.specs.Written.{joined, entry, coefficient}
+use Rattle.icgem_write.specs.Inner.{PutLines, PutsLines, Has}
+use Rattle.icgem_write.specs.Written.{joined, coefficient}
 
 -- a length of 64 bits in millimetres has 17 digits before the dot at most
 pub metres : (n : ℕ) → n < 2 ^ 64 → length (fixed_point 3 n) ≤ 21
 metres n h = omega (arith, fixed_length 3 n, digits_most 16 (n / 1000) (ltb (n / 1000) 10) refl (omega arith))
 
--- a keyword was put, and a value at the end of the columns that it leaves
-module _ {l keyword l' l'' : List ℕ} {at n n' : ℕ} (value : List ℕ) (p : Put l at keyword l' n) (q : Put l' n (padded (53 - length keyword) value) l'' n')
-    (h : length keyword + length value ≤ 53) where
-  pub entry_next : n' ≡ at + 53
-  entry_next = omega (arith, p.next_is, q.next_is, padded_length (53 - length keyword) value (omega arith))
-
-  pub entry_room : length l'' ≡ length l
-  entry_room = omega (arith, put_length p, put_length q)
-
-  pub entry_put : {l''' : List ℕ} {n'' : ℕ} → Put l'' n' (10 ∷ []) l''' n'' → PutLines 1 l at (entry keyword value) l''' n''
-  unfolding entry ascii
-  entry_put {l'''} {n''} r = record {
-    put = put_then (put_then p q) r;
-    next_at = omega (arith, entry_next, r.next_is);
-    same_room = omega (arith, entry_room, put_length r);
-  }
-
 -- lines after lines
-pub lines_then : {a b : ℕ} {l text l' more l'' : List ℕ} {at n n' : ℕ} → PutLines a l at text l' n → PutLines b l' n more l'' n' → PutLines (a + b) l at (text ++ more) l'' n'
-lines_then {a} {b} {l} {text} {l'} {more} {l''} {at} {n} {n'} p q = record {
-  put = put_then p.put q.put;
-  next_at = omega (arith, p.next_at, q.next_at);
-  same_room = omega (arith, p.same_room, q.same_room);
-}
+pub lines_then : {a b : ℕ} {p q r : Page} {text more : List ℕ} → PutsLines a p text q → PutsLines b q more r → PutsLines (a + b) p (text ++ more) r
+lines_then {a} {b} f g = record { puts = puts_then f.puts g.puts; next_at = omega (arith, f.next_at, g.next_at) }
+
+-- lines on a page that began at a buffer's start
+pub lines_from_start : {count : ℕ} {out after text : List ℕ} {p q : Page} → p.out.now ≡ out → p.at ≡ 0 → PutsLines count p text q → after ≡ q.out.now → PutLines count out 0 text after q.at
+lines_from_start {count} {out} {after} {text} {p} {q} same start f end =
+    let lines : PutLines count p.out.now p.at text q.out.now q.at = record { put = f.puts.put; next_at = f.next_at; same_room = f.puts.same_room } in
+    rw (← same, ← start, end) lines
 
 -- ---- a coefficient by its sign and its size
 pub signed_coefficient : (z : ℤ) → coefficient z ≡ sign (lt_z z (pos 0)) ++ fixed_point 15 (nat_abs z)
@@ -65,18 +50,6 @@ pub entry_most : (negative : Bool) (n : ℕ) → n ≤ 2 ^ 60 → length (sign n
 entry_most negative n h =
     omega (arith, length-append (sign negative) (fixed_point 15 n), sign_most negative, fixed_length 15 n, digits_most 3 (n / 10 ^ 15) (ltb (n / 10 ^ 15) 10) refl (omega arith))
 
--- ---- so many columns of a line are put
-pub record Reached (l : List ℕ) (at : ℕ) (columns : ℕ) (l' : List ℕ) (n : ℕ) : Type 0 where
-  pub next : n ≡ at + columns
-  pub room : length l' ≡ length l
-
--- what fills its columns is put after them
-pub reach : {l l' l'' : List ℕ} {at n n' : ℕ} (columns more : ℕ) (text : List ℕ) → Reached l at columns l' n → Put l' n (padded more text) l'' n' → length text ≤ more → Reached l at (columns + more) l'' n'
-reach {l} {l'} {l''} {at} {n} {n'} columns more text p q h = record {
-  next = omega (arith, p.next, q.next_is, padded_length more text h);
-  room = omega (arith, p.room, put_length q);
-}
-
 -- a degree or an order has two digits at most
 pub order_most : (n : ℕ) → n ≤ 60 → length (decimal n) ≤ 3
 order_most n h = omega (arith, digits_most 1 n (ltb n 10) refl (omega arith))
@@ -85,14 +58,18 @@ pub coefficient_most : (z : ℤ) → nat_abs z ≤ 2 ^ 60 → length (coefficien
 coefficient_most z h = rw (signed_coefficient z) (omega (arith, entry_most (lt_z z (pos 0)) (nat_abs z) h))
 
 -- ---- one more of a run of lines
-pub no_lines : (f : ℕ → List ℕ) (l : List ℕ) (at : ℕ) → PutLines 0 l at (joined f 0) l at
+pub no_lines : (f : ℕ → List ℕ) (p : Page) → PutsLines 0 p (joined f 0) p
 unfolding joined
-no_lines f l at = record { put = record { next_is = omega arith; bytes_are = refl }; next_at = omega arith; same_room = refl }
+no_lines f p = record { puts = puts_none p; next_at = omega arith }
 
-pub more_lines : (f : ℕ → List ℕ) (k : ℕ) {a b : ℕ} {l l' l'' : List ℕ} {at n n' : ℕ} → PutLines a l at (joined f k) l' n → PutLines b l' n (f k) l'' n'
-    → PutLines (a + b) l at (joined f (k + 1)) l'' n'
+pub more_lines : (f : ℕ → List ℕ) (k : ℕ) {a b : ℕ} {p q r : Page} → PutsLines a p (joined f k) q → PutsLines b q (f k) r → PutsLines (a + b) p (joined f (k + 1)) r
 unfolding joined
-more_lines f k {a} {b} {l} {l'} {l''} {at} {n} {n'} p q = rw (add-one k) (lines_then p q)
+more_lines f k {a} {b} g h = rw (add-one k) (lines_then g h)
+
+-- and the last
+pub last_lines : (f : ℕ → List ℕ) {k a b total : ℕ} (n : ℕ) {p q r : Page} → k ≡ n → a + b ≡ total → PutsLines a p (joined f k) q → PutsLines b q (f k) r
+    → PutsLines total p (joined f (suc n)) r
+last_lines f {k} n e t g h = rw (← add-one n, ← e, ← t) (more_lines f k g h)
 
 -- the places of a degree stand one after the other
 pub place_is : (n m : ℕ) → n * (n + 1) / 2 + m ≡ place n m

@@ -2,12 +2,8 @@
 use Rattle.std.specs.Prelude.{cond, List, ◌++◌, ◌≡◌, ℕ, eqb, leb, ℤ, length, drop}
 use Rattle.choices.specs.declared.PermanentSystem.{PermanentSystem}
 use Rattle.field.specs.Field.{field_refusal}
-use Rattle.refusals.specs.Numbers.{refusal_number}
 use Rattle.refusals.specs.Outcome.{first_of, told_unless}
 use Rattle.refusals.specs.Told.{Told}
-use Rattle.refusals.specs.Told.Told.{accepted, refused}
-use Rattle.icgem_write.specs.declared.Wrote.{Wrote}
-use Rattle.icgem_write.specs.declared.Wrote.TheVariants.{Bytes, Refused}
 use Rattle.icgem_write.specs.Written.{file_text}
 
 -- 21: "an output too small", after the field's 1 and 2
@@ -22,8 +18,3 @@ bytes_after number text out = cond (eqb number 0) (text ++ drop (length text) ou
 pub record Writes (n : ℕ) (c s : List ℤ) (constant radius : ℕ) (system : PermanentSystem) (out : List ℕ) (told : Told ℕ) (after : List ℕ) : Type 0 where
   pub answer : told ≡ told_unless (write_refusal n c s (file_text n c s constant radius system) (length out)) (length (file_text n c s constant radius system))
   pub bytes_are : after ≡ bytes_after (write_refusal n c s (file_text n c s constant radius system) (length out)) (file_text n c s constant radius system) out
-
--- the number and the value of each answer
-abbrev pub tells : Wrote → Told ℕ
-tells (Bytes count) = accepted count
-tells (Refused r) = refused (refusal_number r)

@@ -1,188 +1,181 @@
-// The text of a field (document 02, T-10), put into a lent buffer line by line; the answer is the place after it.
+// The text of a field (document 02, T-10), put on a page over a lent buffer line by line.
 
 #![tactic(auto)]
 
-ghost use Rattle.std.specs.Prelude.{◌≡◌, suc, ◌+◌, ◌*◌, ◌^◌, ◌≤◌, ◌<◌, nat_abs, length};
+ghost use Rattle.std.specs.Prelude.{◌≡◌, suc, ◌+◌, ◌*◌, ◌^◌, ◌≤◌, nat_abs, length};
 ghost use Rattle.field.specs.Field.{size};
-ghost use Rattle.icgem_names.specs.Names.{system_name, radius as radius_name};
-ghost use Rattle.text.specs.Inner.{Put};
-ghost use Rattle.text.specs.Text.{decimal, fixed_point, padded};
-ghost use Rattle.icgem_write.specs.Outcome.{Writes, tells};
-ghost use Rattle.icgem_write.specs.Inner.{PutLines, Has};
+ghost use Rattle.icgem_names.specs.Names.{system_name};
+ghost use Rattle.refusals.specs.Numbers.{tells};
+ghost use Rattle.text.specs.Inner.{HasRoom};
+ghost use Rattle.columns.specs.Fixed.{fixed};
+ghost use Rattle.icgem_write.specs.Outcome.{Writes};
+ghost use Rattle.icgem_write.specs.Inner.{PutLines, PutsLines, Has};
 ghost use Rattle.icgem_write.specs.Written.{joined, entry, title_lines, measure_lines, manner_lines, closing_line, header, coefficient, place_line, degree_lines, file_text};
 
 use choices::PermanentSystem;
-use refusals::{Answer, Refusal};
-
-// How many bytes were written.
-#[derive(Clone, Copy)]
-pub enum Wrote {
-    Bytes(usize),
-    Refused(Refusal),
-}
+use columns::{Fixed, Value};
+use refusals::Refusal;
+use text::Page;
 
 // The characters of a line before its line feed.
 const COLUMNS: usize = 53;
 
-// 10^15, the counts of a one.
-const ONE: u64 = 1000000000000000;
-
-// Puts an entry of the header whose value is a word.
-fn put_entry(out: &mut [u8], at: usize, keyword: &[u8], value: &[u8]) -> usize
-    requires room { at + 54 ≤ length out.old }
-    requires within { length keyword.now + length value.now ≤ 53 }
-    ensures { PutLines 1 out.old at (entry keyword.now value.now) out.new result }
+// Puts an entry of the header: the keyword at the line's start, the value at its end.
+fn put_entry<V: Value + Drop>(page: &mut Page, keyword: &str, value: V)
+    requires room { HasRoom page.old 54 }
+    requires within { length keyword.now + length (V.text value) ≤ 53 }
+    ensures { PutsLines 1 page.old (entry keyword.now (V.text value)) page.new }
 {
-    let next = text::put_word(out, at, keyword);
-    let next = columns::put_word(out, next, COLUMNS - keyword.len(), value);
-    text::put_byte(out, next, b'\n')
+    page.put_word(keyword);
+    columns::put(page, COLUMNS - keyword.len(), value);
+    page.put_byte(b'\n');
 }
 
-// Puts an entry whose value is a whole number.
-fn put_whole_entry(out: &mut [u8], at: usize, keyword: &[u8], n: u64) -> usize
-    requires room { at + 54 ≤ length out.old }
-    requires within { length keyword.now + 20 ≤ 53 }
-    ensures { PutLines 1 out.old at (entry keyword.now (decimal n)) out.new result }
-{
-    let next = text::put_word(out, at, keyword);
-    let next = columns::put_whole(out, next, COLUMNS - keyword.len(), n);
-    text::put_byte(out, next, b'\n')
-}
-
-// Puts the radius, given in millimetres, in metres.
-fn put_radius(out: &mut [u8], at: usize, radius: u64) -> usize
-    requires { at + 54 ≤ length out.old }
-    ensures { PutLines 1 out.old at (entry radius_name (fixed_point 3 radius)) out.new result }
-{
-    let next = text::put_word(out, at, b"radius");
-    let next = columns::put_number(out, next, COLUMNS - 6, false, 3, 1000, radius);
-    text::put_byte(out, next, b'\n')
-}
-
-// A permanent system's name: nine letters each.
-fn system_name(system: PermanentSystem) -> [u8; 9]
-    ensures { result ≡ system_name system }
+// A permanent system's name.
+#[tactic(auto, unfolding(icgem_names::specs::Names::system_name, text::specs::Text::ascii))]
+fn system_name(system: PermanentSystem) -> &'static str
+    ensures { result.now ≡ system_name system }
 {
     match system {
-        PermanentSystem::TideFree => *b"tide_free",
-        PermanentSystem::Zero => *b"zero_tide",
-        PermanentSystem::Mean => *b"mean_tide",
+        PermanentSystem::TideFree => "tide_free",
+        PermanentSystem::Zero => "zero_tide",
+        PermanentSystem::Mean => "mean_tide",
     }
 }
 
 // Puts what the file is.
-fn put_title(out: &mut [u8], at: usize) -> usize
-    requires { at + 54 * 2 ≤ length out.old }
-    ensures { PutLines 2 out.old at title_lines out.new result }
+fn put_title(page: &mut Page)
+    requires { HasRoom page.old (54 * 2) }
+    ensures { PutsLines 2 page.old title_lines page.new }
 {
-    let next = put_entry(out, at, b"product_type", b"gravity_field");
-    put_entry(out, next, b"modelname", b"surfgimlet")
+    put_entry(page, "product_type", "gravity_field");
+    put_entry(page, "modelname", "surfgimlet");
 }
 
-// Puts the constant, the radius and the degree.
-fn put_measures(out: &mut [u8], at: usize, n: u32, constant: u64, radius: u64) -> usize
-    requires { at + 54 * 3 ≤ length out.old }
-    ensures { PutLines 3 out.old at (measure_lines n constant radius) out.new result }
+// Puts the constant, the radius, given in millimetres, in metres, and the degree.
+#[tactic(auto, using(text::proofs::Decimals::word_most))]
+fn put_measures(page: &mut Page, n: u32, constant: u64, radius: u64)
+    requires { HasRoom page.old (54 * 3) }
+    ensures { PutsLines 3 page.old (measure_lines n constant radius) page.new }
 {
-    let next = put_whole_entry(out, at, b"earth_gravity_constant", constant);
-    let next = put_radius(out, next, radius);
-    put_whole_entry(out, next, b"max_degree", n as u64)
+    let metres = Fixed {
+        negative: false,
+        size: radius,
+        decimals: 3,
+    };
+    put_entry(page, "earth_gravity_constant", constant);
+    put_entry(page, "radius", metres);
+    put_entry(page, "max_degree", u64::from(n));
 }
 
 // Puts how the coefficients are to be taken.
-fn put_manner(out: &mut [u8], at: usize, system: PermanentSystem) -> usize
-    requires { at + 54 * 3 ≤ length out.old }
-    ensures { PutLines 3 out.old at (manner_lines system) out.new result }
+fn put_manner(page: &mut Page, system: PermanentSystem)
+    requires { HasRoom page.old (54 * 3) }
+    ensures { PutsLines 3 page.old (manner_lines system) page.new }
 {
-    let name = system_name(system);
-    let next = put_entry(out, at, b"errors", b"no");
-    let next = put_entry(out, next, b"norm", b"fully_normalized");
-    put_entry(out, next, b"tide_system", &name)
+    put_entry(page, "errors", "no");
+    put_entry(page, "norm", "fully_normalized");
+    put_entry(page, "tide_system", system_name(system));
 }
 
 // Puts the line that ends the header.
-fn put_closing(out: &mut [u8], at: usize) -> usize
-    requires { at + 54 ≤ length out.old }
-    ensures { PutLines 1 out.old at closing_line out.new result }
+#[tactic(auto, unfolding(crate::specs::Written::closing_line, text::specs::Text::ascii))]
+fn put_closing(page: &mut Page)
+    requires { HasRoom page.old 54 }
+    ensures { PutsLines 1 page.old closing_line page.new }
 {
-    text::put_word(
-        out,
-        at,
-        b"end_of_head =========================================\n",
-    )
+    page.put_word("end_of_head =========================================\n");
 }
 
 // Puts the nine lines of the header.
-fn put_header(out: &mut [u8], n: u32, constant: u64, radius: u64, system: PermanentSystem) -> usize
-    requires { 54 * 9 ≤ length out.old }
-    ensures { PutLines 9 out.old 0 (header n constant radius system) out.new result }
+fn put_header(page: &mut Page, n: u32, constant: u64, radius: u64, system: PermanentSystem)
+    requires { HasRoom page.old (54 * 9) }
+    ensures { PutsLines 9 page.old (header n constant radius system) page.new }
 {
-    let at = put_title(out, 0);
-    let at = put_measures(out, at, n, constant, radius);
-    let at = put_manner(out, at, system);
-    put_closing(out, at)
+    put_title(page);
+    put_measures(page, n, constant, radius);
+    put_manner(page, system);
+    put_closing(page);
 }
 
-// Puts a coefficient at the end of its columns.
-fn put_coefficient(out: &mut [u8], at: usize, count: i64) -> usize
-    requires room { at + 22 ≤ length out.old }
-    requires small { nat_abs count ≤ 2 ^ 60 }
-    ensures { Put out.old at (padded 22 (coefficient count)) out.new result }
+// A count with its 15 decimals.
+fn coefficient(count: i64) -> Fixed
+    ensures { fixed result ≡ coefficient count }
 {
-    columns::put_number(out, at, 22, count < 0, 15, ONE, whole::size_of(count))
+    Fixed {
+        negative: count < 0,
+        size: count.unsigned_abs(),
+        decimals: 15,
+    }
 }
 
 // Puts the line of a place.
-fn put_place(out: &mut [u8], at: usize, n: u32, m: u32, c: i64, s: i64) -> usize
-    requires room { at + 54 ≤ length out.old }
+#[tactic(auto, using(crate::proofs::Lines::order_most, crate::proofs::Lines::coefficient_most))]
+fn put_place(page: &mut Page, n: u32, m: u32, c: i64, s: i64)
+    requires room { HasRoom page.old 54 }
     requires degree { n ≤ 60 }
     requires order { m ≤ n }
     requires c_small { nat_abs c ≤ 2 ^ 60 }
     requires s_small { nat_abs s ≤ 2 ^ 60 }
-    ensures { PutLines 1 out.old at (place_line n m c s) out.new result }
+    ensures { PutsLines 1 page.old (place_line n m c s) page.new }
 {
-    let next = text::put_word(out, at, b"gfc");
-    let next = columns::put_whole(out, next, 3, n as u64);
-    let next = columns::put_whole(out, next, 3, m as u64);
-    let next = put_coefficient(out, next, c);
-    let next = put_coefficient(out, next, s);
-    text::put_byte(out, next, b'\n')
+    page.put_word("gfc");
+    columns::put(page, 3, u64::from(n));
+    columns::put(page, 3, u64::from(m));
+    columns::put(page, 22, coefficient(c));
+    columns::put(page, 22, coefficient(s));
+    page.put_byte(b'\n');
 }
 
-// Puts the lines of a degree.
-fn put_degree(out: &mut [u8], at: usize, n: u32, c: &[i64], s: &[i64]) -> usize
-    requires room { at + 54 * (n + 1) ≤ length out.old }
-    requires degree { n ≤ 60 }
-    requires has_c { Has n c.now }
-    requires has_s { Has n s.now }
-    ensures { PutLines (n + 1) out.old at (degree_lines c.now s.now n) out.new result }
-{
-    let first = (n as usize) * (n as usize + 1) / 2;
-    let mut next = at;
-    let mut m: u32 = 0;
-    while m <= n {
-        let place = first + m as usize;
-        next = put_place(out, next, n, m, c[place], s[place]);
-        m += 1;
-    }
-    next
+// The coefficients of every degree up to one.
+#[derive(Clone, Copy)]
+struct Coefficients<'a> {
+    degree: u32,
+    c: &'a [i64],
+    s: &'a [i64],
+    ghost largest: { degree ≤ 60 },
+    ghost has_c: { Has degree c.now },
+    ghost has_s: { Has degree s.now },
 }
 
-// Puts the lines of all degrees up to n.
-fn put_degrees(out: &mut [u8], at: usize, n: u32, c: &[i64], s: &[i64]) -> usize
-    requires room { at + 54 * size n ≤ length out.old }
-    requires degree { n ≤ 60 }
-    requires has_c { Has n c.now }
-    requires has_s { Has n s.now }
-    ensures { PutLines (size n) out.old at (joined (degree_lines c.now s.now) (suc n)) out.new result }
-{
-    let mut next = at;
-    let mut degree: u32 = 0;
-    while degree <= n {
-        next = put_degree(out, next, degree, c, s);
-        degree += 1;
+impl Coefficients<'_> {
+    // Puts the lines of a degree.
+    fn put_degree(&self, page: &mut Page, n: u32)
+        requires room { HasRoom page.old (54 * (n + 1)) }
+        requires degree { n ≤ self.now.degree }
+        ensures { PutsLines (n + 1) page.old (degree_lines self.now.c.now self.now.s.now n) page.new }
+    {
+        let first = (n as usize) * (n as usize + 1) / 2;
+        for m in 0..=n {
+            let place = first + m as usize;
+            put_place(page, n, m, self.c[place], self.s[place]);
+        }
     }
-    next
+
+    // Puts the lines of all degrees.
+    fn put_degrees(&self, page: &mut Page)
+        requires { HasRoom page.old (54 * size self.now.degree) }
+        ensures { PutsLines (size self.now.degree) page.old (joined (degree_lines self.now.c.now self.now.s.now) (suc self.now.degree)) page.new }
+    {
+        for n in 0..=self.degree {
+            self.put_degree(page, n);
+        }
+    }
+}
+
+// Puts the header and the lines of all degrees.
+fn put_text(
+    page: &mut Page,
+    coefficients: &Coefficients,
+    constant: u64,
+    radius: u64,
+    system: PermanentSystem,
+)
+    requires { HasRoom page.old (54 * (9 + size coefficients.now.degree)) }
+    ensures { PutsLines (9 + size coefficients.now.degree) page.old (file_text coefficients.now.degree coefficients.now.c.now coefficients.now.s.now constant radius system) page.new }
+{
+    put_header(page, coefficients.degree, constant, radius, system);
+    coefficients.put_degrees(page);
 }
 
 // Puts the text of a field of degree n at the buffer's start.
@@ -201,11 +194,19 @@ pub fn put_field(
     requires has_s { Has n s.now }
     ensures { PutLines (9 + size n) out.old 0 (file_text n c.now s.now constant radius system) out.new result }
 {
-    let at = put_header(out, n, constant, radius, system);
-    put_degrees(out, at, n, c, s)
+    let mut page = Page::new(out);
+    put_text(
+        &mut page,
+        &Coefficients { degree: n, c, s },
+        constant,
+        radius,
+        system,
+    );
+    page.at
 }
 
 // How many bytes the text of a field of degree n has.
+#[tactic(auto, using(field::proofs::Accepted::size_most))]
 fn bytes_of(n: u32) -> usize
     requires { n ≤ 60 }
     ensures { result ≡ 54 * (9 + size n) }
@@ -225,17 +226,12 @@ pub fn write_field(
     radius: u64,
     system: PermanentSystem,
     out: &mut [u8],
-) -> Wrote
+) -> Result<usize, Refusal>
     ensures { Writes n c.now s.now constant radius system out.old (tells result) out.new }
 {
-    match field::tested(n, c, s) {
-        Answer::Accepted => {
-            if out.len() < bytes_of(n) {
-                Wrote::Refused(Refusal::ShortOutput)
-            } else {
-                Wrote::Bytes(put_field(out, n, c, s, constant, radius, system))
-            }
-        }
-        Answer::Refused(why) => Wrote::Refused(why),
+    field::tested(n, c, s)?;
+    if out.len() < bytes_of(n) {
+        return Err(Refusal::ShortOutput);
     }
+    Ok(put_field(out, n, c, s, constant, radius, system))
 }

@@ -1,16 +1,13 @@
 -- What a call leaves in lent memory: its answer's number, and the value that it tells.
-use Rattle.std.specs.Prelude.{List, [], ◌∷◌, ◌≡◌, ℕ, ℤ}
-use Rattle.arguments.specs.Phase.{Multipliers}
-use Rattle.crossing.specs.Choices.{system_number}
+use Rattle.std.specs.Prelude.{List, ◌≡◌, ℕ, ℤ}
+use Rattle.arguments.specs.declared.Multipliers.{Multipliers}
+use Rattle.arguments.specs.Phase.{listed}
+use Rattle.choices.specs.Numbers.{system_number}
 use Rattle.icgem_file.specs.declared.FileHead.{FileHead}
 use Rattle.lines.specs.Lines.{Found}
 use Rattle.refusals.specs.Outcome.{Outcome, told_unless}
 use Rattle.refusals.specs.Told.{Told, told_number, next}
 use Rattle.refusals.specs.Told.Told.{accepted, refused}
-
--- six multipliers in a lent list, in the order of the arguments
-abbrev pub listed : Multipliers → List ℤ
-listed m = m.tau ∷ m.s ∷ m.h ∷ m.p ∷ m.np ∷ m.ps ∷ []
 
 abbrev pub listed_of : Told Multipliers → Told (List ℤ)
 listed_of told = next told (λ m. accepted (listed m))

@@ -9,8 +9,7 @@ const LEAST_DEGREE: u32 = 4;
 
 const LARGEST_DEGREE: u32 = 60;
 
-// 2^60
-const LARGEST_ENTRY: i64 = 1152921504606846976;
+const LARGEST_ENTRY: u64 = 1 << 60;
 
 // In metres.
 const LEAST_DISTANCE: f64 = 100000000.0;
@@ -31,15 +30,14 @@ const TIDES: usize = 32;
 
 const PLACES: usize = 90;
 
-const LARGEST_MULTIPLIER: i32 = 13;
+const LARGEST_MULTIPLIER: u32 = 13;
 
 // In millionths.
 const LARGEST_ROW_TOTAL: u64 = 4000000;
 
 const LARGEST_SHEET_DEGREE: usize = 12;
 
-// 2^24
-const LARGEST_COEFFICIENT: i64 = 16777216;
+const LARGEST_COEFFICIENT: u64 = 1 << 24;
 
 // The records that a list of own lines has at most.
 const RECORDS: usize = 64;
@@ -47,30 +45,30 @@ const RECORDS: usize = 64;
 const LARGEST_FIRST_MULTIPLIER: i32 = 2;
 
 // In tenths of 10^-12.
-const LARGEST_AMPLITUDE: i64 = 100000;
+const LARGEST_AMPLITUDE: u64 = 100000;
 
 // The first bit of a selection that stands for no line.
-const BIT_49: u64 = 0x2000000000000;
+const BIT_49: u64 = 1 << 49;
 
 // In micro-arcseconds.
-const LARGEST_POLE_OFFSET: i64 = 1000000;
+const LARGEST_POLE_OFFSET: u64 = 1000000;
 
 pub fn is_degree(n: u32) -> bool
     ensures { result ≡ is_degree n }
 {
-    (LEAST_DEGREE <= n) & (n <= LARGEST_DEGREE)
+    (LEAST_DEGREE..=LARGEST_DEGREE).contains(&n)
 }
 
 pub fn is_entry(z: i64) -> bool
     ensures { result ≡ is_entry z }
 {
-    (-LARGEST_ENTRY <= z) & (z <= LARGEST_ENTRY)
+    z.unsigned_abs() <= LARGEST_ENTRY
 }
 
 pub fn is_distance(r: f64) -> bool
     ensures { result ≡ is_distance r }
 {
-    (LEAST_DISTANCE <= r) & (r <= LARGEST_DISTANCE)
+    (LEAST_DISTANCE..=LARGEST_DISTANCE).contains(&r)
 }
 
 pub fn is_ratio(x: f64) -> bool
@@ -95,13 +93,13 @@ pub fn is_doodson(number: u32) -> bool
 pub fn is_line_count(n: usize) -> bool
     ensures { result ≡ is_line_count n }
 {
-    (1 <= n) & (n <= LINES)
+    (1..=LINES).contains(&n)
 }
 
 pub fn is_tide_count(n: usize) -> bool
     ensures { result ≡ is_tide_count n }
 {
-    (1 <= n) & (n <= TIDES)
+    (1..=TIDES).contains(&n)
 }
 
 pub fn is_place_count(n: usize) -> bool
@@ -113,7 +111,7 @@ pub fn is_place_count(n: usize) -> bool
 pub fn is_multiplier(k: i32) -> bool
     ensures { result ≡ is_multiplier k }
 {
-    (-LARGEST_MULTIPLIER <= k) & (k <= LARGEST_MULTIPLIER)
+    k.unsigned_abs() <= LARGEST_MULTIPLIER
 }
 
 pub fn is_row_total(w: u64) -> bool
@@ -125,13 +123,13 @@ pub fn is_row_total(w: u64) -> bool
 pub fn is_sheet_degree(n: usize) -> bool
     ensures { result ≡ is_sheet_degree n }
 {
-    (1 <= n) & (n <= LARGEST_SHEET_DEGREE)
+    (1..=LARGEST_SHEET_DEGREE).contains(&n)
 }
 
 pub fn is_coefficient(z: i64) -> bool
     ensures { result ≡ is_coefficient z }
 {
-    (-LARGEST_COEFFICIENT <= z) & (z <= LARGEST_COEFFICIENT)
+    z.unsigned_abs() <= LARGEST_COEFFICIENT
 }
 
 pub fn is_record_count(n: usize) -> bool
@@ -143,14 +141,13 @@ pub fn is_record_count(n: usize) -> bool
 pub fn is_first_multiplier(k: i32) -> bool
     ensures { result ≡ is_first_multiplier k }
 {
-    (0 <= k) & (k <= LARGEST_FIRST_MULTIPLIER)
+    (0..=LARGEST_FIRST_MULTIPLIER).contains(&k)
 }
 
-// No absolute value is taken: the least number of 64 bits has none.
 pub fn is_amplitude(a: i64) -> bool
     ensures { result ≡ is_amplitude a }
 {
-    (-LARGEST_AMPLITUDE <= a) & (a <= LARGEST_AMPLITUDE)
+    a.unsigned_abs() <= LARGEST_AMPLITUDE
 }
 
 pub fn is_selection(selection: u64) -> bool
@@ -162,5 +159,5 @@ pub fn is_selection(selection: u64) -> bool
 pub fn is_pole_offset(offset: i64) -> bool
     ensures { result ≡ is_pole_offset offset }
 {
-    (-LARGEST_POLE_OFFSET <= offset) & (offset <= LARGEST_POLE_OFFSET)
+    offset.unsigned_abs() <= LARGEST_POLE_OFFSET
 }

@@ -7,10 +7,10 @@ use Prim.Native.Nat.{ℕ, zero, suc, ◌≤◌, ◌<◌}
 use native.Mathlib.Nat.{not-suc-le-zero, le_of_suc-le-suc}
 use native.Mathlib.Omega.{arith}
 use lib.Dec.{T, ltb, leb, eqb}
-use lib.IntN.{ℤ, pos, nat_abs}
+use lib.IntN.{ℤ, nat_abs}
 use lib.ListN.{length, get_or}
 use mir.Syntax.{w16, w64}
-use mir.Val.{SFits, to_z, of_z}
+use mir.Val.{to_z, of_z}
 use mir.Facts.{to_z-of_z}
 use Rattle.bands.specs.declared.Band.{Band}
 use Rattle.bands.specs.declared.Band.TheVariants.{Diurnal, LongPeriod, Semidiurnal}
@@ -19,10 +19,10 @@ use Rattle.whole.proofs.Parts.{fits_abs}
 use Rattle.choices.specs.declared.LoveModel.{LoveModel}
 use Rattle.choices.specs.declared.LoveModel.TheVariants.{Elastic, Anelastic}
 use Rattle.whole.proofs.Tests.{and_left, and_right}
-use Rattle.doodson.specs.Doodson.{digit, multipliers_in}
+use Rattle.doodson.specs.Doodson.{digit, multipliers_in, multipliers_written}
 use Rattle.limits.specs.Limits.{is_doodson}
 use Rattle.lines.specs.Lines.{diurnal, long_period, semidiurnal, printed, line_at, multipliers_at, band_at, in_model, printed_line, nowhere, Printed}
-use Rattle.lines.specs.Inner.{digits_of, number_in, multipliers_by, digits, firsts, seconds}
+use Rattle.lines.specs.Inner.{digits_of, number_in, row_of}
 
 pub count : length printed ≡ 49
 unfolding printed diurnal long_period semidiurnal
@@ -66,7 +66,7 @@ unfolding small line_at printed diurnal long_period semidiurnal
 amplitudes_small i = each_small printed refl i
 
 -- so no printed line has more than 472,000 counts in phase or out of it, in either model
-model_small : (band : Band) (love : LoveModel) (a b : ℤ) → nat_abs a ≤ 4720 → nat_abs b ≤ 4720
+pub model_small : (band : Band) (love : LoveModel) (a b : ℤ) → nat_abs a ≤ 4720 → nat_abs b ≤ 4720
     → (nat_abs (in_model band love a b).ip ≤ 472000) × (nat_abs (in_model band love a b).op ≤ 472000)
 unfolding in_model
 model_small Diurnal Elastic a b ha hb = (counts_size a 4720 ha, omega arith)
@@ -79,51 +79,35 @@ pub printed_small : (love : LoveModel) (i : ℕ) → (nat_abs (printed_line love
 unfolding printed_line
 printed_small love i = model_small (band_at i) love (line_at i).first (line_at i).second (amplitudes_small i).0 (amplitudes_small i).1
 
--- ---- the columns as the code has them, in 16 bits
-module _ (f : Printed → ℤ) (most : (i : ℕ) → nat_abs (f (line_at i)) ≤ 4720) (l : List ℤ) (i : ℕ) (h : i < 49) (e : l ≡ map f printed) where
-  in_16_bits : to_z w16 (of_z w16 (get_or l i (pos 0))) ≡ f (line_at i)
-  in_16_bits =
-      ap (λ (z : ℤ). to_z w16 (of_z w16 z)) (ap (λ (m : List ℤ). get_or m i (pos 0)) e ∙ column f i (pos 0) h)
-      ∙ to_z-of_z (fits_abs w16 (f (line_at i)) (omega (arith, most i)))
-
-  amplitude_fits : SFits w64 (to_z w16 (of_z w16 (get_or l i (pos 0))))
-  amplitude_fits = rw in_16_bits (fits_abs w64 (f (line_at i)) (omega (arith, most i)))
-
-  amplitude_read : to_z w64 (of_z w64 (to_z w16 (of_z w16 (get_or l i (pos 0))))) ≡ f (line_at i)
-  amplitude_read = to_z-of_z amplitude_fits ∙ in_16_bits
-
-module _ (l : List ℤ) (i : ℕ) (h : i < 49) where
-  pub first_read : l ≡ firsts → to_z w64 (of_z w64 (to_z w16 (of_z w16 (get_or l i (pos 0))))) ≡ (line_at i).first
-  unfolding firsts
-  first_read = amplitude_read (λ (l : Printed). l.first) (λ i. (amplitudes_small i).0) l i h
-
-  pub second_read : l ≡ seconds → to_z w64 (of_z w64 (to_z w16 (of_z w16 (get_or l i (pos 0))))) ≡ (line_at i).second
-  unfolding seconds
-  second_read = amplitude_read (λ (l : Printed). l.second) (λ i. (amplitudes_small i).1) l i h
-
 -- what the hexadecimal digits of a printed number write is what its decimal ones do
 numbers_agree : map (λ (l : Printed). number_in (digits_of l.number)) printed ≡ map (λ (l : Printed). l.number) printed
 unfolding number_in digits_of printed diurnal long_period semidiurnal
 numbers_agree = refl
 
-multipliers_agree : map (λ (l : Printed). multipliers_by (digits_of l.number)) printed ≡ map (λ (l : Printed). multipliers_in l.number) printed
-unfolding multipliers_by multipliers_in digits_of printed diurnal long_period semidiurnal
+multipliers_agree : map (λ (l : Printed). multipliers_written 16 (digits_of l.number)) printed ≡ map (λ (l : Printed). multipliers_in l.number) printed
+unfolding multipliers_written multipliers_in digits_of printed diurnal long_period semidiurnal
 multipliers_agree = refl
 
 -- a value of each line, found in one way and in another
 agree : {B : Type 0} (f g : Printed → B) → map f printed ≡ map g printed → (i : ℕ) (e : B) → i < 49 → f (line_at i) ≡ g (line_at i)
 agree f g same i e h = sym (column f i e h) ∙ ap (λ (l : List _). get_or l i e) same ∙ column g i e h
 
-module _ (l : List ℕ) (i : ℕ) (h : i < 49) (e : l ≡ digits) where
-  digits_read : get_or l i 0 ≡ digits_of (line_at i).number
-  unfolding digits
-  digits_read = ap (λ (m : List ℕ). get_or m i 0) e ∙ column (λ (p : Printed). digits_of p.number) i 0 h
+module _ (i : ℕ) (h : i < 49) where
+  pub number_read : number_in (digits_of (line_at i).number) ≡ (line_at i).number
+  number_read = agree (λ (p : Printed). number_in (digits_of p.number)) (λ (p : Printed). p.number) numbers_agree i 0 h
 
-  pub number_read : number_in (get_or l i 0) ≡ (line_at i).number
-  number_read = ap number_in digits_read ∙ agree (λ (p : Printed). number_in (digits_of p.number)) (λ (p : Printed). p.number) numbers_agree i 0 h
-
-  pub multipliers_read : multipliers_by (get_or l i 0) ≡ multipliers_at i
+  pub multipliers_read : multipliers_written 16 (digits_of (line_at i).number) ≡ multipliers_at i
   unfolding multipliers_at
   multipliers_read =
-      ap multipliers_by digits_read
-      ∙ agree (λ (p : Printed). multipliers_by (digits_of p.number)) (λ (p : Printed). multipliers_in p.number) multipliers_agree i (multipliers_in 0) h
+      agree (λ (p : Printed). multipliers_written 16 (digits_of p.number)) (λ (p : Printed). multipliers_in p.number) multipliers_agree i (multipliers_in 0) h
+
+-- an amplitude as the code has it, in 16 bits and then in 64
+module _ (i : ℕ) {r : ℕ × ℤ × ℤ} (e : r ≡ row_of (line_at i)) {x : ℤ} where
+  widened : {z : ℤ} → nat_abs z ≤ 4720 → x ≡ to_z w16 (of_z w16 z) → to_z w64 (of_z w64 x) ≡ z
+  widened {z} h f = rw (f, to_z-of_z (fits_abs w16 z (omega (arith, h)))) (to_z-of_z (fits_abs w64 z (omega (arith, h))))
+
+  pub first_read : x ≡ to_z w16 (of_z w16 r.1) → to_z w64 (of_z w64 x) ≡ (line_at i).first
+  first_read f = widened (amplitudes_small i).0 (rw e at f)
+
+  pub second_read : x ≡ to_z w16 (of_z w16 r.2) → to_z w64 (of_z w64 x) ≡ (line_at i).second
+  second_read f = widened (amplitudes_small i).1 (rw e at f)

@@ -1,7 +1,7 @@
 -- Document 01, "Step two (001, Tables 6.2)": the 49 printed lines, in its order and with its values; and finding one by its Doodson number.
 use Rattle.std.specs.Prelude.{cond, List, [], ◌∷◌, ◌++◌, ℕ, ◌+◌, ltb, eqb, ℤ, pos, neg_ℤ, get_or}
-use Rattle.arguments.specs.Phase.{Multipliers}
-use Rattle.arguments.specs.Phase.{Phases}
+use Rattle.arguments.specs.declared.Multipliers.{Multipliers}
+use Rattle.arguments.specs.declared.Phases.{Phases}
 use Rattle.arguments.specs.Phase.{phase}
 use Rattle.bands.specs.declared.Band.{Band}
 use Rattle.bands.specs.declared.Band.TheVariants.{Diurnal, LongPeriod, Semidiurnal}
@@ -9,13 +9,11 @@ use Rattle.bands.specs.declared.Line.{Line as BandLine}
 use Rattle.bands.specs.Bands.{in_counts}
 use Rattle.choices.specs.declared.LoveModel.{LoveModel}
 use Rattle.choices.specs.declared.LoveModel.TheVariants.{Elastic, Anelastic}
-use Rattle.refusals.specs.Numbers.{refusal_number}
 use Rattle.refusals.specs.Told.{Told}
 use Rattle.refusals.specs.Told.Told.{accepted, refused}
 use Rattle.doodson.specs.Doodson.{multipliers_in}
 use Rattle.limits.specs.Limits.{is_doodson}
-use Rattle.lines.specs.declared.Sought.{Sought}
-use Rattle.lines.specs.declared.Sought.TheVariants.{Line, Refused}
+pub use Rattle.lines.specs.declared.Found.{Found}
 
 -- a Doodson number and two printed amplitudes, in tenths of 10^-12
 pub record Printed : Type 0 where
@@ -131,12 +129,6 @@ in_model Semidiurnal love a b = record { band = Semidiurnal; ip = in_counts a; o
 unfoldable pub printed_line : LoveModel → ℕ → BandLine
 printed_line love i = in_model (band_at i) love (line_at i).first (line_at i).second
 
--- the answer: an index and the two amplitudes there
-pub record Found : Type 0 where
-  pub index : ℕ
-  pub first : ℤ
-  pub second : ℤ
-
 -- sought among lines of which the first has the index i: 11 exactly when none has the number
 unfoldable pub sought_from : ℕ → ℕ → List Printed → Told Found
 sought_from number i [] = refused 11
@@ -146,8 +138,3 @@ sought_from number i (l ∷ ls) =
 -- 10 is tested first
 unfoldable pub find_line : ℕ → Told Found
 find_line number = cond (is_doodson number) (sought_from number 0 printed) (refused 10)
-
--- the number and the values of each answer
-abbrev pub tells : Sought → Told Found
-tells (Line i a b) = accepted (record { index = i; first = a; second = b })
-tells (Refused r) = refused (refusal_number r)

@@ -3,53 +3,75 @@
 #![tactic(auto)]
 
 ghost use Rattle.std.specs.Prelude.{◌≡◌, ◌≤◌, ◌<◌, nat_abs};
-ghost use Rattle.lines.specs.Lines.{band_at, in_model, printed_line, find_line, tells};
-ghost use Rattle.lines.specs.Inner.{number_in, multipliers_by, line_with, digits as digits_column, firsts, seconds};
+ghost use Rattle.refusals.specs.Numbers.{tells};
+ghost use Rattle.lines.specs.Lines.{line_at, band_at, in_model, multipliers_at, printed_line, find_line};
+ghost use Rattle.lines.specs.Inner.{number_in, row_of};
 
 use arguments::Multipliers;
 use bands::{Band, Line};
 use choices::LoveModel;
 use refusals::Refusal;
 
-// Doodson numbers, a decimal digit written as a hexadecimal one, so that reading a digit takes no division.
-const DIGITS: [u32; 49] = [
-    0x135645, 0x135655, 0x137455, 0x145545, 0x145555, 0x153655, 0x155455, 0x155655, 0x155665,
-    0x157455, 0x162556, 0x163545, 0x163555, 0x164556, 0x165545, 0x165555, 0x165565, 0x165575,
-    0x166554, 0x167555, 0x173655, 0x175455, 0x175465, 0x183555, 0x185555, 0x185565, 0x055565,
-    0x055575, 0x056554, 0x057555, 0x057565, 0x058554, 0x063655, 0x065445, 0x065455, 0x065465,
-    0x065655, 0x073555, 0x075355, 0x075555, 0x075565, 0x075575, 0x083655, 0x085455, 0x085465,
-    0x093555, 0x095355, 0x245655, 0x255555,
+// Each line's Doodson number, and its two amplitudes in tenths of 10^-12: elastic and anelastic, ip and op, a semidiurnal one twice. A decimal digit of the
+// number is written as a hexadecimal one, so that reading a digit takes no division: with decimal numbers an hour takes a quarter longer to set.
+static LINES: [(u32, i16, i16); 49] = [
+    (0x135645, -1, -1),
+    (0x135655, -7, -7),
+    (0x137455, -1, -1),
+    (0x145545, -12, -13),
+    (0x145555, -66, -67),
+    (0x153655, 1, 1),
+    (0x155455, 4, 4),
+    (0x155655, 13, 13),
+    (0x155665, 2, 3),
+    (0x157455, 3, 3),
+    (0x162556, -19, -19),
+    (0x163545, 5, 5),
+    (0x163555, -433, -432),
+    (0x164556, 20, 20),
+    (0x165545, -88, -88),
+    (0x165555, 4720, 4710),
+    (0x165565, 683, 682),
+    (0x165575, -16, -16),
+    (0x166554, -208, -204),
+    (0x167555, -50, -50),
+    (0x173655, -5, -5),
+    (0x175455, -21, -21),
+    (0x175465, -4, -4),
+    (0x183555, -2, -2),
+    (0x185555, -7, -6),
+    (0x185565, -4, -4),
+    (0x055565, 166, -67),
+    (0x055575, -1, 1),
+    (0x056554, -12, 8),
+    (0x057555, -55, 43),
+    (0x057565, 1, -1),
+    (0x058554, -3, 2),
+    (0x063655, -3, 7),
+    (0x065445, 1, -2),
+    (0x065455, -12, 37),
+    (0x065465, 1, -2),
+    (0x065655, 1, -2),
+    (0x073555, 0, 6),
+    (0x075355, 0, 3),
+    (0x075555, 6, 63),
+    (0x075565, 2, 26),
+    (0x075575, 0, 2),
+    (0x083655, 1, 2),
+    (0x085455, 4, 11),
+    (0x085465, 2, 5),
+    (0x093555, 1, 2),
+    (0x095355, 1, 1),
+    (0x245655, -3, -3),
+    (0x255555, -12, -12),
 ];
 
-// The two amplitudes, in tenths of 10^-12: elastic and anelastic, ip and op, a semidiurnal one twice.
-const FIRST: [i16; 49] = [
-    -1, -7, -1, -12, -66, 1, 4, 13, 2, 3, -19, 5, -433, 20, -88, 4720, 683, -16, -208, -50, -5,
-    -21, -4, -2, -7, -4, 166, -1, -12, -55, 1, -3, -3, 1, -12, 1, 1, 0, 0, 6, 2, 0, 1, 4, 2, 1, 1,
-    -3, -12,
-];
-
-const SECOND: [i16; 49] = [
-    -1, -7, -1, -13, -67, 1, 4, 13, 3, 3, -19, 5, -432, 20, -88, 4710, 682, -16, -204, -50, -5,
-    -21, -4, -2, -6, -4, -67, 1, 8, 43, -1, 2, 7, -2, 37, -2, -2, 6, 3, 63, 26, 2, 2, 11, 5, 2, 1,
-    -3, -12,
-];
-
-// The printed tables. A call takes them once and looks its lines up there.
-#[derive(Clone, Copy)]
-pub struct Tables {
-    pub digits: [u32; 49],
-    pub first: [i16; 49],
-    pub second: [i16; 49],
-}
-
-pub fn printed_tables() -> Tables
-    ensures { (result.digits ≡ digits_column) × ((result.first ≡ firsts) × (result.second ≡ seconds)) }
+// The row of printed line i.
+fn row(i: usize) -> (u32, i16, i16)
+    requires { i < 49 }
+    ensures { result ≡ row_of (line_at i) }
 {
-    Tables {
-        digits: DIGITS,
-        first: FIRST,
-        second: SECOND,
-    }
+    LINES[i]
 }
 
 // The number that the digits write.
@@ -64,38 +86,23 @@ fn number_in(digits: u32) -> u32
         + digits % 16
 }
 
-// The multipliers that the digits write.
-pub fn multipliers_by(digits: u32) -> Multipliers
-    ensures { result ≡ multipliers_by digits }
+// The multipliers of printed line i.
+pub fn multipliers_at(i: usize) -> Multipliers
+    requires { i < 49 }
+    ensures { result ≡ multipliers_at i }
 {
-    Multipliers {
-        tau: (digits / 1048576 % 16) as i32,
-        s: doodson::multiplier_of(digits / 65536 % 16),
-        h: doodson::multiplier_of(digits / 4096 % 16),
-        p: doodson::multiplier_of(digits / 256 % 16),
-        np: doodson::multiplier_of(digits / 16 % 16),
-        ps: doodson::multiplier_of(digits % 16),
-    }
+    doodson::multipliers_in::<16>(row(i).0)
 }
 
 // The band of a line, by its index.
 fn band_at(i: usize) -> Band
     ensures { result ≡ band_at i }
 {
-    if i < 26 {
-        Band::Diurnal
-    } else if i < 47 {
-        Band::LongPeriod
-    } else {
-        Band::Semidiurnal
+    match i {
+        0..26 => Band::Diurnal,
+        26..47 => Band::LongPeriod,
+        47.. => Band::Semidiurnal,
     }
-}
-
-// A line of given amplitudes, in counts.
-fn line(band: Band, ip: i64, op: i64) -> Line
-    ensures { result ≡ line_with band ip op }
-{
-    Line { band, ip, op }
 }
 
 // A line of a band in a Love model, from its two printed amplitudes: in counts, a and b.
@@ -105,60 +112,51 @@ fn line_in(band: Band, love: LoveModel, first: i64, second: i64) -> Line
 {
     let a = first * 100;
     let b = second * 100;
-    match band {
-        Band::Diurnal => match love {
-            LoveModel::Elastic => line(Band::Diurnal, a, 0),
-            LoveModel::Anelastic => line(Band::Diurnal, b, 0),
-        },
-        Band::LongPeriod => match love {
-            LoveModel::Elastic => line(Band::LongPeriod, 0, 0),
-            LoveModel::Anelastic => line(Band::LongPeriod, a, b),
-        },
-        Band::Semidiurnal => line(Band::Semidiurnal, a, 0),
-    }
+    let (ip, op) = match (band, love) {
+        (Band::Diurnal, LoveModel::Elastic) => (a, 0),
+        (Band::Diurnal, LoveModel::Anelastic) => (b, 0),
+        (Band::LongPeriod, LoveModel::Elastic) => (0, 0),
+        (Band::LongPeriod, LoveModel::Anelastic) => (a, b),
+        (Band::Semidiurnal, _) => (a, 0),
+    };
+    Line { band, ip, op }
 }
 
 // Printed line i in a Love model.
-pub fn printed_line(first: &[i16; 49], second: &[i16; 49], love: LoveModel, i: usize) -> Line
-    requires { (i < 49) × ((first.now ≡ firsts) × (second.now ≡ seconds)) }
+pub fn printed_line(love: LoveModel, i: usize) -> Line
+    requires { i < 49 }
     ensures { result ≡ printed_line love i }
 {
-    line_in(band_at(i), love, first[i] as i64, second[i] as i64)
+    let (_, first, second) = row(i);
+    line_in(band_at(i), love, i64::from(first), i64::from(second))
 }
 
-#[derive(Clone, Copy)]
-pub enum Sought {
-    Line {
-        index: usize,
-        first: i64,
-        second: i64,
-    },
-    Refused(Refusal),
+// A printed line's index, 0..48, and its two amplitudes.
+#[derive(Clone, Copy, Debug, PartialEq, Eq)]
+pub struct Found {
+    pub index: usize,
+    pub first: i64,
+    pub second: i64,
 }
 
 // Given: a Doodson number.
-// Answered: the index 0..48 of the printed line that has it, and the line's two amplitudes.
+// Answered: the printed line that has it.
 // Refused: 10, a number above 999,999; 11, no printed line has it.
-pub fn find_line(number: u32) -> Sought
+pub fn find_line(number: u32) -> Result<Found, Refusal>
     ensures { tells result ≡ find_line number }
 {
     if !limits::is_doodson(number) {
-        return Sought::Refused(Refusal::NotDoodson);
+        return Err(Refusal::NotDoodson);
     }
-    let t = printed_tables();
-    let digits = t.digits;
-    let first = t.first;
-    let second = t.second;
-    let mut i = 0;
-    while i < 49 {
-        if number_in(digits[i]) == number {
-            return Sought::Line {
-                index: i,
-                first: first[i] as i64,
-                second: second[i] as i64,
-            };
+    for index in 0..49 {
+        let (digits, first, second) = row(index);
+        if number_in(digits) == number {
+            return Ok(Found {
+                index,
+                first: i64::from(first),
+                second: i64::from(second),
+            });
         }
-        i += 1;
     }
-    Sought::Refused(Refusal::NoSuchLine)
+    Err(Refusal::NoSuchLine)
 }

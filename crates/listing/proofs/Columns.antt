@@ -1,5 +1,5 @@
 -- Columns put one after the other.
-use mathlib.Core.Path.{◌≡◌, refl}
+use mathlib.Core.Path.{◌≡◌}
 use mathlib.Core.List.{List, [], ◌∷◌, ◌++◌, append-nil, append_assoc}
 use Prim.Native.Nat.{ℕ, ◌+◌, ◌*◌, ◌^◌, ◌≤◌, ◌<◌}
 use native.Mathlib.Numerals.{add-one}
@@ -7,10 +7,11 @@ use native.Mathlib.Omega.{arith}
 use lib.IntN.{ℤ, pos, nat_abs}
 use lib.ListN.{length, get_or, take, length-append}
 use lib.Seq.{take-suc}
-use Rattle.text.specs.Inner.{Put}
+use Rattle.text.specs.declared.Page.{Page}
+use Rattle.text.specs.Inner.{Puts}
 use Rattle.text.specs.Text.{ascii, number}
 use Rattle.text.proofs.Numbers.{number_most}
-use Rattle.text.proofs.Puts.{put_then}
+use Rattle.text.proofs.Puts.{puts_none, puts_then}
 use Rattle.listing.specs.Listing.{columns}
 
 -- every count is a number of the machine
@@ -29,20 +30,19 @@ columns_then [] z = simp append-nil
 columns_then (x ∷ a) z = rw (columns_then a z) (simp append_assoc)
 
 -- columns were put as far as the count i, each of them taking 21 bytes at most
-pub record Upto (l : List ℕ) (at : ℕ) (counts : List ℤ) (i : ℕ) (l' : List ℕ) (next : ℕ) : Type 0 where
-  pub put : Put l at (columns (take i counts)) l' next
-  pub within : next ≤ at + 21 * i
+pub record Upto (p : Page) (counts : List ℤ) (i : ℕ) (q : Page) : Type 0 where
+  pub puts : Puts p (columns (take i counts)) q
+  pub within : q.at ≤ p.at + 21 * i
+
+pub upto_none : (p : Page) (counts : List ℤ) → Upto p counts 0 p
+unfolding columns
+upto_none p counts = record { puts = puts_none p; within = omega arith }
 
 -- one column more
-pub upto_next : {l l' l'' l''' : List ℕ} {at i next after-space after : ℕ} (counts : List ℤ) → Upto l at counts i l' next → i < length counts
-    → nat_abs (get_or counts i (pos 0)) ≤ 2 ^ 63 → Put l' next (32 ∷ []) l'' after-space → Put l'' after-space (number (get_or counts i (pos 0))) l''' after
-    → Upto l at counts (i + 1) l''' after
+pub upto_next : {p q r t : Page} {i : ℕ} (counts : List ℤ) → Upto p counts i q → i < length counts → nat_abs (get_or counts i (pos 0)) ≤ 2 ^ 63
+    → Puts q (32 ∷ []) r → Puts r (number (get_or counts i (pos 0))) t → Upto p counts (i + 1) t
 unfolding ascii
-upto_next {l} {l'} {l''} {l'''} {at} {i} {next} {after-space} {after} counts u h fits space count = record {
-  put = rw (add-one i, take-suc counts i (pos 0) h, columns_then (take i counts) (get_or counts i (pos 0))) (put_then u.put (put_then space count));
-  within = omega (arith, u.within, space.next_is, count.next_is, number_most (get_or counts i (pos 0)) fits);
+upto_next {p} {q} {r} {t} {i} counts u h fits space count = record {
+  puts = rw (add-one i, take-suc counts i (pos 0) h, columns_then (take i counts) (get_or counts i (pos 0))) (puts_then u.puts (puts_then space count));
+  within = omega (arith, u.within, space.put.next_is, count.put.next_is, number_most (get_or counts i (pos 0)) fits);
 }
-
-pub upto_none : (l : List ℕ) (at : ℕ) (counts : List ℤ) → Upto l at counts 0 l at
-unfolding columns
-upto_none l at counts = record { put = record { next_is = omega arith; bytes_are = refl }; within = omega arith }

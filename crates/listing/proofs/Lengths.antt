@@ -9,13 +9,14 @@ use borrow.Author.Tests.{ne_eqb}
 use lib.Dec.{eqb}
 use lib.ListN.{length, drop, length-append}
 use lib.Seq.{sets-eq}
-use Rattle.arguments.specs.Phase.{Phases}
+use Rattle.arguments.specs.declared.Phases.{Phases}
 use Rattle.bands.specs.declared.Corrections.{Corrections}
 use Rattle.bands.specs.Inner.{Small}
 use Rattle.choices.specs.declared.LoveModel.TheVariants.{Elastic, Anelastic}
 use Rattle.profiles.specs.Profiles.{all_lines}
 use Rattle.step_two.proofs.Sizes.{corrections_small}
-use Rattle.text.specs.Inner.{Put}
+use Rattle.text.specs.declared.Page.{Page}
+use Rattle.text.specs.Inner.{Put, Puts}
 use Rattle.text.specs.Text.{ascii}
 use Rattle.listing.specs.Listing.{phases_of, model_text, models_text, listing_of, Listed}
 use Rattle.listing.proofs.Columns.{columns_most}
@@ -39,14 +40,15 @@ listing_most input = most (eqb (length input) 24)
     most true = models_most (phases_of input)
     most false = omega arith
 
--- a text put at the buffer's start is listed
-pub listed : (input before after text : List ℕ) (n : ℕ) → listing_of input ≡ text → 256 ≤ length before → Put before 0 text after n → Listed input before after n
-listed input before after text n e h p =
-    let p' : Put before 0 (listing_of input) after n = rw e p in
+-- a text put on a page that began at the buffer's start is listed
+pub listed : (input before text : List ℕ) {p q : Page} → listing_of input ≡ text → 256 ≤ length before → p.out.now ≡ before → p.at ≡ 0 → Puts p text q
+    → Listed input before q.out.now q.at
+listed input before text {p} {q} e h same start f =
+    let put : Put before 0 (listing_of input) q.out.now q.at = rw (e, ← same, ← start) f.put in
     record {
-      count-is = p'.next_is ∙ zero-add (length (listing_of input));
+      count-is = put.next_is ∙ zero-add (length (listing_of input));
       bytes_are =
-          p'.bytes_are
+          put.bytes_are
           ∙ sets-eq (listing_of input) before 0 (omega (arith, listing_most input))
           ∙ ap (λ (k : ℕ). listing_of input ++ drop k before) (zero-add (length (listing_of input)));
     }

@@ -1,6 +1,6 @@
 -- Document 01, "Cases": the text that the program `steptwo` writes. A text is the list of its bytes.
 use Rattle.std.specs.Prelude.{cond, List, [], ◌∷◌, ◌++◌, ◌≡◌, ℕ, eqb, ℤ, length, drop}
-use Rattle.arguments.specs.Phase.{Phases}
+use Rattle.arguments.specs.declared.Phases.{Phases}
 use Rattle.bands.specs.declared.Corrections.{Corrections}
 use Rattle.choices.specs.declared.LoveModel.TheVariants.{Elastic, Anelastic}
 use Rattle.profiles.specs.Profiles.{all_lines}

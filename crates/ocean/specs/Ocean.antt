@@ -1,6 +1,6 @@
 -- Document 01, "Model sheet and ocean tide (002)": what each place of a sheet gains.
 use Rattle.std.specs.Prelude.{List, ℕ, ℤ}
-use Rattle.arguments.specs.Phase.{Phases}
+use Rattle.arguments.specs.declared.Phases.{Phases}
 use Rattle.choices.specs.declared.Frame.{Frame}
 use Rattle.places.specs.Places.{correction}
 use Rattle.sheet.specs.Sheet.{c_cos, s_cos, c_sin, s_sin}

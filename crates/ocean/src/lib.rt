@@ -2,45 +2,30 @@
 
 #![tactic(auto)]
 
-ghost use Rattle.places.specs.Inner.{WithFactors};
-ghost use Rattle.sheet.specs.Inner.{Passed};
 ghost use Rattle.ocean.specs.Inner.{Wide, PlacesAdded, TideAdded};
 
 use arguments::Phases;
 use choices::Frame;
-use sheet::Layout;
+use sheet::Accepted;
+use tides::Tides;
 
-// The corrections of all places, from the factors of the sheet's tides, added to both lists.
-fn add_places(
-    c: &mut [i64],
-    s: &mut [i64],
-    sheet: &[u8],
-    l: Layout,
-    frame: Frame,
-    fcos: &[i64; 32],
-    fsin: &[i64; 32],
-)
-    requires { WithFactors sheet.now l fcos.now fsin.now × (Wide sheet.now c.old × Wide sheet.now s.old) }
-    ensures { PlacesAdded sheet.now frame fcos.now fsin.now c.old s.old c.new s.new }
+// The corrections of all places, added to both lists.
+fn add_places(c: &mut [i64], s: &mut [i64], tides: &Tides<'_>, frame: Frame)
+    requires { Wide tides.now.accepted.sheet.bytes.now c.old × Wide tides.now.accepted.sheet.bytes.now s.old }
+    ensures { PlacesAdded tides.now.accepted.sheet.bytes.now frame tides.now.factors c.old s.old c.new s.new }
 {
-    let places = l.places;
-    let mut j: usize = 0;
-    while j < places {
-        let at = places::index_of(sheet, l, j);
-        let by = places::correction_of(sheet, l, j, frame, fcos, fsin);
+    for j in 0..tides.accepted.sheet.layout.places {
+        let at = places::index_of(&tides.accepted, j);
+        let by = places::correction_of(tides, j, frame);
         field::correct(c, at, by.c);
         field::correct(s, at, by.s);
-        j += 1;
     }
 }
 
-// The ocean tide of a sheet that passed its tests, added to lists that have its places: each tide's factors once, then each place once.
-pub fn add_tide(c: &mut [i64], s: &mut [i64], sheet: &[u8], l: Layout, phases: Phases, frame: Frame)
-    requires { Passed sheet.now l × (Wide sheet.now c.old × Wide sheet.now s.old) }
-    ensures { TideAdded sheet.now phases frame c.old s.old c.new s.new }
+// The ocean tide of an accepted sheet, added to lists that have its places: each tide's factors once, then each place once.
+pub fn add_tide(c: &mut [i64], s: &mut [i64], accepted: &Accepted<'_>, phases: Phases, frame: Frame)
+    requires { Wide accepted.now.sheet.bytes.now c.old × Wide accepted.now.sheet.bytes.now s.old }
+    ensures { TideAdded accepted.now.sheet.bytes.now phases frame c.old s.old c.new s.new }
 {
-    let mut fcos = [0i64; 32];
-    let mut fsin = [0i64; 32];
-    tides::fill_factors(sheet, l, phases, &mut fcos, &mut fsin);
-    add_places(c, s, sheet, l, frame, &fcos, &fsin);
+    add_places(c, s, &Tides::of(accepted, phases), frame);
 }

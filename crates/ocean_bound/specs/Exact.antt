@@ -1,7 +1,7 @@
 -- The third demand for the ocean tide: "each ocean correction is at most nine counts from the exact sum", which is "the same sum with no rounding
 -- anywhere". All fractions are cleared: what is exact is a whole number of parts of a count.
 use Rattle.std.specs.Prelude.{true, List, ◌≡◌, ℕ, ◌+◌, ◌*◌, ◌^◌, ◌≤◌, ◌<◌, ℤ, pos, nat_abs, ◌-ℤ◌, ◌*ℤ◌}
-use Rattle.arguments.specs.Phase.{Phases}
+use Rattle.arguments.specs.declared.Phases.{Phases}
 use Rattle.choices.specs.declared.Frame.{Frame}
 use Rattle.ocean.specs.Ocean.{d_c, d_s}
 use Rattle.places.specs.Places.{place_sum, skipped, unless_skipped}

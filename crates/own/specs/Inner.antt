@@ -1,6 +1,6 @@
 -- What the inner functions hand to one another: the sums of the records read so far.
 use Rattle.std.specs.Prelude.{cond, List, ◌≡◌, ℕ, zero, suc, pos, length}
-use Rattle.arguments.specs.Phase.{Phases}
+use Rattle.arguments.specs.declared.Phases.{Phases}
 use Rattle.arguments.specs.Phase.{phase}
 use Rattle.bands.specs.declared.Sums.{Sums}
 use Rattle.bands.specs.Bands.{plus_line}

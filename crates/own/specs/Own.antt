@@ -1,7 +1,7 @@
 -- Document 02, T-01, "Tide lines of our own": records, the line that each is, what refuses a list of them, and its five corrections.
 use Rattle.std.specs.Prelude.{Bool, ◌&&◌, cond, List, ℕ, eqb, ℤ, pos, negsuc, length, get_or}
-use Rattle.arguments.specs.Phase.{Multipliers}
-use Rattle.arguments.specs.Phase.{Phases}
+use Rattle.arguments.specs.declared.Multipliers.{Multipliers}
+use Rattle.arguments.specs.declared.Phases.{Phases}
 use Rattle.arguments.specs.Phase.{phase}
 use Rattle.bands.specs.declared.Band.{Band}
 use Rattle.bands.specs.declared.Band.TheVariants.{Diurnal, LongPeriod, Semidiurnal}

@@ -6,7 +6,7 @@ use native.Mathlib.Nat.{mul-le-mul_right}
 use native.Mathlib.Omega.{arith}
 use lib.IntN.{ℤ}
 use lib.ListN.{length}
-use Rattle.arguments.specs.Phase.{Phases}
+use Rattle.arguments.specs.declared.Phases.{Phases}
 use Rattle.bands.specs.declared.Line.{Line}
 use Rattle.bands.specs.Inner.{Light}
 use Rattle.bands.specs.Bands.{Coefficient, C20, C21, S21, C22, S22, correction_of, corrections_of}

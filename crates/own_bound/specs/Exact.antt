@@ -1,6 +1,6 @@
 -- Document 02, T-01: "Each resulting correction must lie within three counts of its exact sum", which is the same sum with no rounding anywhere.
 use Rattle.std.specs.Prelude.{List, ◌*◌, ◌≤◌, ℤ, pos, nat_abs, ◌-ℤ◌, ◌*ℤ◌}
-use Rattle.arguments.specs.Phase.{Phases}
+use Rattle.arguments.specs.declared.Phases.{Phases}
 use Rattle.bands.specs.Bands.{Coefficient, C20, C21, S21, C22, S22}
 use Rattle.own.specs.declared.OwnLine.{OwnLine}
 use Rattle.own.specs.Own.{own_sum, own_corrections}

@@ -1,4 +1,4 @@
--- Corrections worked out from factors in lists are those of the factors.
+-- Corrections worked out from factors in a list are those of the factors.
 use mathlib.Core.List.{List}
 use mathlib.Core.Path.{◌≡◌, ap}
 use Prim.Native.Nat.{ℕ, ◌^◌}
@@ -6,17 +6,17 @@ use lib.IntN.{ℤ, ◌+ℤ◌, ◌*ℤ◌}
 use Rattle.choices.specs.declared.Frame.{Frame}
 use Rattle.whole.specs.Nearest.{nearest}
 use Rattle.sheet.specs.Sheet.{tide_count, coefficient}
-use Rattle.tides.specs.Inner.{listed, Lists}
+use Rattle.tides.specs.Inner.{Lists}
 use Rattle.whole.proofs.Sums.{sum_same}
 use Rattle.places.specs.Places.{place_sum, unless_skipped, correction}
 
-module _ (s : List ℕ) (frame : Frame) {C S : ℕ → ℤ} {F G : List ℤ} (HC : Lists C (tide_count s) F) (HS : Lists S (tide_count s) G) (p q j : ℕ) where
-  same_sum : place_sum s (listed F) (listed G) p q j ≡ place_sum s C S p q j
+module _ (s : List ℕ) (frame : Frame) {C S F G : ℕ → ℤ} (HC : Lists C (tide_count s) F) (HS : Lists S (tide_count s) G) (p q j : ℕ) where
+  same_sum : place_sum s F G p q j ≡ place_sum s C S p q j
   unfolding place_sum
   same_sum =
-      sum_same (λ k. listed F k *ℤ coefficient s j k p +ℤ listed G k *ℤ coefficient s j k q) (λ k. C k *ℤ coefficient s j k p +ℤ S k *ℤ coefficient s j k q)
+      sum_same (λ k. F k *ℤ coefficient s j k p +ℤ G k *ℤ coefficient s j k q) (λ k. C k *ℤ coefficient s j k p +ℤ S k *ℤ coefficient s j k q)
       (tide_count s) (λ k h. rw (HC.each k h, HS.each k h))
 
-  pub same_correction : correction s frame (listed F) (listed G) p q j ≡ correction s frame C S p q j
+  pub same_correction : correction s frame F G p q j ≡ correction s frame C S p q j
   unfolding correction
   same_correction = ap (λ (z : ℤ). unless_skipped s frame j (nearest z (2 ^ 30))) same_sum

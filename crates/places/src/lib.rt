@@ -3,22 +3,22 @@
 #![tactic(auto)]
 
 ghost use Rattle.std.specs.Prelude.{◌≡◌, ◌+◌, ◌*◌, ◌^◌, ◌<◌, nat_abs, ◌+ℤ◌, ◌*ℤ◌};
-ghost use Rattle.sheet.specs.Inner.{Passed};
 ghost use Rattle.sheet.specs.Sheet.{place_count};
 ghost use Rattle.places.specs.Places.{skipped, index_of};
-ghost use Rattle.places.specs.Inner.{WithFactors, Summed, Corrects};
+ghost use Rattle.places.specs.Inner.{Summed, Corrects};
 
 use choices::Frame;
-use sheet::Layout;
+use sheet::{Accepted, Column};
+use tides::{Factor, Tides};
 
 // What a place's C and S gain, in counts.
-#[derive(Clone, Copy)]
+#[derive(Clone, Copy, Debug, PartialEq, Eq)]
 pub struct Correction {
     pub c: i64,
     pub s: i64,
 }
 
-// A place's two sums over the tides, in 2^-30 counts.
+// A place's two sums over the tides, in 2^-30 counts: no correction, which is in counts.
 #[derive(Clone, Copy)]
 pub struct PlaceSums {
     pub c: i64,
@@ -26,62 +26,50 @@ pub struct PlaceSums {
 }
 
 // A running sum with one tide more: its factors times its cos and sin counts.
-fn plus_tide(sum: i64, f: i64, cos: i64, g: i64, sin: i64) -> i64
-    requires { nat_abs sum + nat_abs f * nat_abs cos + nat_abs g * nat_abs sin < 2 ^ 63 }
-    ensures { result ≡ sum +ℤ (f *ℤ cos +ℤ g *ℤ sin) }
+fn plus_tide(sum: i64, factor: Factor, cos: i64, sin: i64) -> i64
+    requires { nat_abs sum + nat_abs factor.cosine * nat_abs cos + nat_abs factor.sine * nat_abs sin < 2 ^ 63 }
+    ensures { result ≡ sum +ℤ (factor.cosine *ℤ cos +ℤ factor.sine *ℤ sin) }
 {
-    sum + f * cos + g * sin
+    sum + factor.cosine * cos + factor.sine * sin
 }
 
 // Both sums of place j in one pass over its words, not rounded.
-fn place_sums(sheet: &[u8], l: Layout, j: usize, fcos: &[i64; 32], fsin: &[i64; 32]) -> PlaceSums
-    requires { WithFactors sheet.now l fcos.now fsin.now × (j < place_count sheet.now) }
-    ensures { Summed sheet.now fcos.now fsin.now j result }
+fn place_sums(tides: &Tides<'_>, j: usize) -> PlaceSums
+    requires { j < place_count tides.now.accepted.sheet.bytes.now }
+    ensures { Summed tides.now.accepted.sheet.bytes.now tides.now.factors j result }
 {
-    let tides = l.tides;
-    let mut c: i64 = 0;
-    let mut s: i64 = 0;
-    let mut k: usize = 0;
-    while k < tides {
-        let f = fcos[k];
-        let g = fsin[k];
-        let c_cos = sheet::coefficient_at(sheet, l, j, k, 0);
-        let s_cos = sheet::coefficient_at(sheet, l, j, k, 1);
-        let c_sin = sheet::coefficient_at(sheet, l, j, k, 2);
-        let s_sin = sheet::coefficient_at(sheet, l, j, k, 3);
-        c = plus_tide(c, f, c_cos, g, c_sin);
-        s = plus_tide(s, f, s_cos, g, s_sin);
-        k += 1;
+    let sheet = &tides.accepted.sheet;
+    let mut c = 0;
+    let mut s = 0;
+    for k in 0..sheet.layout.tides {
+        let factor = tides.factors[k];
+        let c_cos = sheet.coefficient_at(j, k, Column::CCos);
+        let s_cos = sheet.coefficient_at(j, k, Column::SCos);
+        let c_sin = sheet.coefficient_at(j, k, Column::CSin);
+        let s_sin = sheet.coefficient_at(j, k, Column::SSin);
+        c = plus_tide(c, factor, c_cos, c_sin);
+        s = plus_tide(s, factor, s_cos, s_sin);
     }
-    PlaceSums { c: c, s: s }
+    PlaceSums { c, s }
 }
 
 // Degree 1 in the centre-of-mass frame, and nothing else.
+#[tactic(auto, unfolding(crate::specs::Places::skipped))]
 fn is_skipped(frame: Frame, degree: usize) -> bool
     ensures { result ≡ skipped frame degree }
 {
-    match frame {
-        Frame::CentreOfFigure => false,
-        Frame::CentreOfMass => degree == 1,
-    }
+    matches!(frame, Frame::CentreOfMass) && degree == 1
 }
 
-// The correction of place j, from the factors of the sheet's tides.
-pub fn correction_of(
-    sheet: &[u8],
-    l: Layout,
-    j: usize,
-    frame: Frame,
-    fcos: &[i64; 32],
-    fsin: &[i64; 32],
-) -> Correction
-    requires { WithFactors sheet.now l fcos.now fsin.now × (j < place_count sheet.now) }
-    ensures { Corrects sheet.now frame fcos.now fsin.now j result }
+// The correction of place j.
+pub fn correction_of(tides: &Tides<'_>, j: usize, frame: Frame) -> Correction
+    requires { j < place_count tides.now.accepted.sheet.bytes.now }
+    ensures { Corrects tides.now.accepted.sheet.bytes.now frame tides.now.factors j result }
 {
-    if is_skipped(frame, sheet::degree_at(sheet, l, j)) {
+    if is_skipped(frame, tides.accepted.sheet.degree_at(j)) {
         return Correction { c: 0, s: 0 };
     }
-    let sums = place_sums(sheet, l, j, fcos, fsin);
+    let sums = place_sums(tides, j);
     Correction {
         c: whole::nearest_of(sums.c, 1073741824),
         s: whole::nearest_of(sums.s, 1073741824),
@@ -89,10 +77,10 @@ pub fn correction_of(
 }
 
 // Where place j stands in a list.
-pub fn index_of(sheet: &[u8], l: Layout, j: usize) -> usize
-    requires { Passed sheet.now l × (j < place_count sheet.now) }
-    ensures { result ≡ index_of sheet.now j }
+pub fn index_of(accepted: &Accepted<'_>, j: usize) -> usize
+    requires { j < place_count accepted.now.sheet.bytes.now }
+    ensures { result ≡ index_of accepted.now.sheet.bytes.now j }
 {
-    let degree = sheet::degree_at(sheet, l, j);
-    degree * (degree + 1) / 2 + sheet::order_at(sheet, l, j)
+    let degree = accepted.sheet.degree_at(j);
+    degree * (degree + 1) / 2 + accepted.sheet.order_at(j)
 }

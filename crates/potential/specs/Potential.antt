@@ -1,11 +1,11 @@
 -- Document 01, "Step one": the terms P and Q of each degree and order, every operation rounded once.
 use Rattle.std.specs.Prelude.{ℕ, Float}
+use Rattle.doubles.specs.declared.Complex.{Complex}
 use Rattle.doubles.specs.Doubles.{◌*·◌, ◌/·◌, ◌+·◌, ◌-·◌, decimal, number}
 use Rattle.powers.specs.Powers.{E, F}
+use Rattle.constants.specs.declared.PerTerm.{PerTerm}
 use Rattle.constants.specs.Norms.{norms}
 use Rattle.bodies.specs.declared.Direction.{Direction}
-use Rattle.potential.specs.declared.Pair.{Pair}
-use Rattle.potential.specs.declared.Potential.{Potential}
 
 -- a degree n and an order m
 pub data Term : Type 0 where
@@ -55,50 +55,51 @@ L w t32 = number 15 *· w
 L w t33 = number 15
 
 abbrev pub N : Term → Float
-N t20 = norms.n20
-N t21 = norms.n21
-N t22 = norms.n22
-N t30 = norms.n30
-N t31 = norms.n31
-N t32 = norms.n32
-N t33 = norms.n33
+N t20 = norms.t20
+N t21 = norms.t21
+N t22 = norms.t22
+N t30 = norms.t30
+N t31 = norms.t31
+N t32 = norms.t32
+N t33 = norms.t33
 
 -- "t = (N*L)*W; P = t*E(m), Q = t*F(m)."
 abbrev pub strength : Float → Float → Direction → Term → Float
 strength norm ratio d t = norm *· L d.w t *· W ratio d.r t
 
-abbrev pub times : Float → Float → Float → Pair
-times t e f = record { p = t *· e; q = t *· f }
+abbrev pub times : Float → Float → Float → Complex
+times t e f = record { re = t *· e; im = t *· f }
 
-abbrev pub term : Float → Direction → Term → Pair
+abbrev pub term : Float → Direction → Term → Complex
 term ratio d t = times (strength (N t) ratio d t) (E (order t) d.u d.v) (F (order t) d.u d.v)
 
-unfoldable pub terms : Float → Direction → Potential
+unfoldable pub terms : Float → Direction → PerTerm Complex
 terms ratio d =
     record {
-      nm20 = term ratio d t20;
-      nm21 = term ratio d t21;
-      nm22 = term ratio d t22;
-      nm30 = term ratio d t30;
-      nm31 = term ratio d t31;
-      nm32 = term ratio d t32;
-      nm33 = term ratio d t33;
+      t20 = term ratio d t20;
+      t21 = term ratio d t21;
+      t22 = term ratio d t22;
+      t30 = term ratio d t30;
+      t31 = term ratio d t31;
+      t32 = term ratio d t32;
+      t33 = term ratio d t33;
     }
 
 -- "Add Sun to Moon; divide P and Q by 5 (degree 2) or 7 (degree 3)."
-abbrev pub share : Term → Pair → Pair → Pair
-share t moon sun =
-    let by = by_degree (number 5) (number 7) t in
-    record { p = (moon.p +· sun.p) /· by; q = (moon.q +· sun.q) /· by }
+abbrev pub divided : Complex → Complex → Float → Complex
+divided moon sun by = record { re = (moon.re +· sun.re) /· by; im = (moon.im +· sun.im) /· by }
 
-unfoldable pub shared : Potential → Potential → Potential
+abbrev pub share : Term → Complex → Complex → Complex
+share t moon sun = divided moon sun (by_degree (number 5) (number 7) t)
+
+unfoldable pub shared : PerTerm Complex → PerTerm Complex → PerTerm Complex
 shared moon sun =
     record {
-      nm20 = share t20 moon.nm20 sun.nm20;
-      nm21 = share t21 moon.nm21 sun.nm21;
-      nm22 = share t22 moon.nm22 sun.nm22;
-      nm30 = share t30 moon.nm30 sun.nm30;
-      nm31 = share t31 moon.nm31 sun.nm31;
-      nm32 = share t32 moon.nm32 sun.nm32;
-      nm33 = share t33 moon.nm33 sun.nm33;
+      t20 = share t20 moon.t20 sun.t20;
+      t21 = share t21 moon.t21 sun.t21;
+      t22 = share t22 moon.t22 sun.t22;
+      t30 = share t30 moon.t30 sun.t30;
+      t31 = share t31 moon.t31 sun.t31;
+      t32 = share t32 moon.t32 sun.t32;
+      t33 = share t33 moon.t33 sun.t33;
     }

@@ -3,44 +3,16 @@
 #![tactic(auto)]
 
 ghost use Rattle.std.specs.Prelude.{◌≡◌};
-ghost use Rattle.potential.specs.Potential.{terms, shared};
+ghost use Rattle.potential.specs.Potential.{times, terms, divided, shared};
 ghost use Rattle.potential.specs.Inner.{strengths, paired};
 
 use bodies::Direction;
-use constants::{Norms, norms_of};
-use powers::{Power, powers_of};
-
-// P and Q: the real and the imaginary part.
-#[derive(Clone, Copy)]
-pub struct Pair {
-    pub p: f64,
-    pub q: f64,
-}
-
-#[derive(Clone, Copy)]
-pub struct Potential {
-    pub nm20: Pair,
-    pub nm21: Pair,
-    pub nm22: Pair,
-    pub nm30: Pair,
-    pub nm31: Pair,
-    pub nm32: Pair,
-    pub nm33: Pair,
-}
+use constants::{PerTerm, norms_of};
+use doubles::Complex;
+use powers::powers_of;
 
 // t of each degree and order.
-#[derive(Clone, Copy)]
-pub struct Strengths {
-    pub t20: f64,
-    pub t21: f64,
-    pub t22: f64,
-    pub t30: f64,
-    pub t31: f64,
-    pub t32: f64,
-    pub t33: f64,
-}
-
-fn strengths_of(ratio: f64, d: Direction, n: Norms) -> Strengths
+fn strengths_of(ratio: f64, d: Direction, n: PerTerm<f64>) -> PerTerm<f64>
     ensures { result ≡ strengths ratio d n }
 {
     let w = d.w;
@@ -50,103 +22,69 @@ fn strengths_of(ratio: f64, d: Direction, n: Norms) -> Strengths
     let weight2 = ratio * q3;
     let weight3 = ratio * q4;
     let w2 = w * w;
-    let t20 = n.n20 * ((3.0 * w2 - 1.0) / 2.0) * weight2;
-    let t21 = n.n21 * (3.0 * w) * weight2;
-    let t22 = n.n22 * 3.0 * weight2;
-    let t30 = n.n30 * ((5.0 * w2 - 3.0) * w / 2.0) * weight3;
-    let t31 = n.n31 * ((15.0 * w2 - 3.0) / 2.0) * weight3;
-    let t32 = n.n32 * (15.0 * w) * weight3;
-    let t33 = n.n33 * 15.0 * weight3;
-    Strengths {
-        t20,
-        t21,
-        t22,
-        t30,
-        t31,
-        t32,
-        t33,
+    PerTerm {
+        t20: n.t20 * ((3.0 * w2 - 1.0) / 2.0) * weight2,
+        t21: n.t21 * (3.0 * w) * weight2,
+        t22: n.t22 * 3.0 * weight2,
+        t30: n.t30 * ((5.0 * w2 - 3.0) * w / 2.0) * weight3,
+        t31: n.t31 * ((15.0 * w2 - 3.0) / 2.0) * weight3,
+        t32: n.t32 * (15.0 * w) * weight3,
+        t33: n.t33 * 15.0 * weight3,
     }
 }
 
-fn paired_of(t: Strengths, power: [Power; 4]) -> Potential
+// A power times t.
+fn times(t: f64, power: Complex) -> Complex
+    ensures { result ≡ times t power.re power.im }
+{
+    Complex {
+        re: t * power.re,
+        im: t * power.im,
+    }
+}
+
+fn paired_of(t: PerTerm<f64>, power: [Complex; 4]) -> PerTerm<Complex>
     ensures { result ≡ paired t power }
 {
-    let p0 = power[0];
-    let p1 = power[1];
-    let p2 = power[2];
-    let p3 = power[3];
-    Potential {
-        nm20: Pair {
-            p: t.t20 * p0.e,
-            q: t.t20 * p0.f,
-        },
-        nm21: Pair {
-            p: t.t21 * p1.e,
-            q: t.t21 * p1.f,
-        },
-        nm22: Pair {
-            p: t.t22 * p2.e,
-            q: t.t22 * p2.f,
-        },
-        nm30: Pair {
-            p: t.t30 * p0.e,
-            q: t.t30 * p0.f,
-        },
-        nm31: Pair {
-            p: t.t31 * p1.e,
-            q: t.t31 * p1.f,
-        },
-        nm32: Pair {
-            p: t.t32 * p2.e,
-            q: t.t32 * p2.f,
-        },
-        nm33: Pair {
-            p: t.t33 * p3.e,
-            q: t.t33 * p3.f,
-        },
+    PerTerm {
+        t20: times(t.t20, power[0]),
+        t21: times(t.t21, power[1]),
+        t22: times(t.t22, power[2]),
+        t30: times(t.t30, power[0]),
+        t31: times(t.t31, power[1]),
+        t32: times(t.t32, power[2]),
+        t33: times(t.t33, power[3]),
     }
 }
 
-// The terms of one body.
-pub fn terms_of(ratio: f64, d: Direction) -> Potential
+// P and Q of one body, as P + iQ.
+pub fn terms_of(ratio: f64, d: Direction) -> PerTerm<Complex>
     ensures { result ≡ terms ratio d }
 {
     let t = strengths_of(ratio, d, norms_of());
     paired_of(t, powers_of(d.u, d.v))
 }
 
+fn divided(moon: Complex, sun: Complex, by: f64) -> Complex
+    ensures { result ≡ divided moon sun by }
+{
+    Complex {
+        re: (moon.re + sun.re) / by,
+        im: (moon.im + sun.im) / by,
+    }
+}
+
 // Both bodies' terms, added and divided by 2n + 1.
-pub fn shared_of(moon: Potential, sun: Potential) -> Potential
+pub fn shared_of(moon: PerTerm<Complex>, sun: PerTerm<Complex>) -> PerTerm<Complex>
     ensures { result ≡ shared moon sun }
 {
-    Potential {
-        nm20: Pair {
-            p: (moon.nm20.p + sun.nm20.p) / 5.0,
-            q: (moon.nm20.q + sun.nm20.q) / 5.0,
-        },
-        nm21: Pair {
-            p: (moon.nm21.p + sun.nm21.p) / 5.0,
-            q: (moon.nm21.q + sun.nm21.q) / 5.0,
-        },
-        nm22: Pair {
-            p: (moon.nm22.p + sun.nm22.p) / 5.0,
-            q: (moon.nm22.q + sun.nm22.q) / 5.0,
-        },
-        nm30: Pair {
-            p: (moon.nm30.p + sun.nm30.p) / 7.0,
-            q: (moon.nm30.q + sun.nm30.q) / 7.0,
-        },
-        nm31: Pair {
-            p: (moon.nm31.p + sun.nm31.p) / 7.0,
-            q: (moon.nm31.q + sun.nm31.q) / 7.0,
-        },
-        nm32: Pair {
-            p: (moon.nm32.p + sun.nm32.p) / 7.0,
-            q: (moon.nm32.q + sun.nm32.q) / 7.0,
-        },
-        nm33: Pair {
-            p: (moon.nm33.p + sun.nm33.p) / 7.0,
-            q: (moon.nm33.q + sun.nm33.q) / 7.0,
-        },
+    PerTerm {
+        t20: divided(moon.t20, sun.t20, 5.0),
+        t21: divided(moon.t21, sun.t21, 5.0),
+        t22: divided(moon.t22, sun.t22, 5.0),
+        t30: divided(moon.t30, sun.t30, 7.0),
+        t31: divided(moon.t31, sun.t31, 7.0),
+        t32: divided(moon.t32, sun.t32, 7.0),
+        t33: divided(moon.t33, sun.t33, 7.0),
     }
 }

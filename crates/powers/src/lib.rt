@@ -5,31 +5,26 @@
 ghost use Rattle.std.specs.Prelude.{◌≡◌, ◌%◌};
 ghost use Rattle.powers.specs.Powers.{power, next, powers};
 
-// E and F of one order.
-#[derive(Clone, Copy)]
-pub struct Power {
-    pub e: f64,
-    pub f: f64,
-}
+use doubles::Complex;
 
 // Both of an order, from both of the order before.
-fn next_of(p: Power, u: f64, v: f64) -> Power
+fn next_of(p: Complex, u: f64, v: f64) -> Complex
     ensures { result ≡ next p u v }
 {
-    Power {
-        e: u * p.e - v * p.f,
-        f: u * p.f + v * p.e,
+    Complex {
+        re: u * p.re - v * p.im,
+        im: u * p.im + v * p.re,
     }
 }
 
 // Both of an even order.
 #[cycle(even_power_odd_power)]
-fn even_power(m: u8, u: f64, v: f64) -> Power
+fn even_power(m: u8, u: f64, v: f64) -> Complex
     requires { m % 2 ≡ 0 }
     ensures { result ≡ power m u v }
 {
     if m == 0 {
-        Power { e: 1.0, f: 0.0 }
+        Complex { re: 1.0, im: 0.0 }
     } else {
         next_of(odd_power(m - 1, u, v), u, v)
     }
@@ -37,7 +32,7 @@ fn even_power(m: u8, u: f64, v: f64) -> Power
 
 // Both of an odd order.
 #[cycle(even_power_odd_power)]
-fn odd_power(m: u8, u: f64, v: f64) -> Power
+fn odd_power(m: u8, u: f64, v: f64) -> Complex
     requires { m % 2 ≡ 1 }
     ensures { result ≡ power m u v }
 {
@@ -45,7 +40,7 @@ fn odd_power(m: u8, u: f64, v: f64) -> Power
 }
 
 // E and F of the orders 0 to 3, each worked out once from the one before.
-pub fn powers_of(u: f64, v: f64) -> [Power; 4]
+pub fn powers_of(u: f64, v: f64) -> [Complex; 4]
     ensures { result ≡ powers u v }
 {
     let p0 = even_power(0, u, v);

@@ -10,9 +10,11 @@ use lib.Dec.{eqb}
 use lib.IntN.{ℤ}
 use Rattle.refusals.specs.Outcome.{first_of, unless_refused, told_unless, Outcome, Gives, GivesValue}
 use Rattle.refusals.specs.declared.Refusal.{Refusal}
-use Rattle.refusals.specs.Numbers.{refusal_number}
+use Rattle.std.specs.Prelude.{Result, Ok, Err}
+use Rattle.std.specs.Result.{result_and}
+use Rattle.refusals.specs.Numbers.{refusal_number, answer_number, tells}
 use Rattle.refusals.proofs.Numbers.{refusal_not_zero}
-use Rattle.refusals.specs.Told.{Told}
+use Rattle.refusals.specs.Told.{Told, told_number}
 use Rattle.refusals.specs.Told.Told.{accepted, refused}
 
 -- a call that answered k gives its outcome, where the number is 0 and where it is another
@@ -72,12 +74,19 @@ pub first_none : (a b : ℕ) → first_of a b ≡ 0 → (a ≡ 0) × (b ≡ 0)
 first_none zero b e = (refl, sym (first_passed 0 b refl) ∙ e)
 first_none (suc a) b e = absurd (let z : suc a ≡ 0 = sym (first_kept (suc a) b (λ q. omega arith)) ∙ e in omega arith)
 
--- ---- tests by `?`: what the first of two refusals is where the first test refuses, where the second does, and where both pass
-pub refused_first : (r : Refusal) (a b : ℕ) → refusal_number r ≡ a → refusal_number r ≡ first_of a b
-refused_first r a b e = e ∙ sym (first_kept a b (λ z. refusal_not_zero r (e ∙ z)))
+-- one test after the other, as the library's `and` puts them
+pub and_first : {A : Type 0} (a : Result Unit Refusal) (b : Result A Refusal) → told_number (tells (result_and a b)) ≡ first_of (answer_number a) (told_number (tells b))
+and_first (Ok done) b = sym (first_passed 0 (told_number (tells b)) refl)
+and_first (Err r) b = sym (first_kept (refusal_number r) (told_number (tells b)) (refusal_not_zero r))
 
-pub refused_next : (n a b : ℕ) → a ≡ 0 → n ≡ b → n ≡ first_of a b
-refused_next n a b z e = e ∙ sym (first_passed a b z)
+pub answer_told : (a : Result Unit Refusal) → told_number (tells a) ≡ answer_number a
+answer_told (Ok done) = refl
+answer_told (Err r) = refl
+
+-- what both answered where neither refused
+pub and_ok : {A : Type 0} (a : Result Unit Refusal) (b : Result A Refusal) (x : A) → result_and a b ≡ Ok x → (answer_number a ≡ 0) × (b ≡ Ok x)
+and_ok (Ok done) b x e = (refl, e)
+and_ok (Err r) b x e = absurd (cc e)
 
 -- a call that is refused gives its outcome: both lists as they were
 pub gives_refused : (r : Refusal) {number : ℕ} (c s c' s' : List ℤ) → refusal_number r ≡ number → Gives (unless_refused number c s c' s') (refusal_number r) c s

@@ -1,7 +1,7 @@
 -- Document 02, T-07: "Reversing all amplitudes should reverse every correction". What it is to reverse lines, records, a sheet and the pole's offsets, and
 -- that each correction then has the other sign, to the count.
 use Rattle.std.specs.Prelude.{List, map, ◌≡◌, ℕ, ◌<◌, ℤ, neg_ℤ, length}
-use Rattle.arguments.specs.Phase.{Phases}
+use Rattle.arguments.specs.declared.Phases.{Phases}
 use Rattle.bands.specs.declared.Line.{Line}
 use Rattle.bands.specs.Bands.{Coefficient, sum_of, correction_of}
 use Rattle.choices.specs.declared.Frame.{Frame}

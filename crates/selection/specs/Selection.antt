@@ -2,12 +2,7 @@
 use Rattle.std.specs.Prelude.{Bool, cond, ℕ, zero, suc, ◌+◌, ◌/◌, ◌%◌, ◌^◌, eqb, pos}
 use Rattle.bands.specs.declared.Line.{Line}
 use Rattle.limits.specs.Limits.{is_selection}
-use Rattle.refusals.specs.Numbers.{refusal_number}
-use Rattle.refusals.specs.Told.{Told}
-use Rattle.refusals.specs.Told.Told.{accepted, refused}
 use Rattle.whole.specs.Sum.{count_to}
-use Rattle.selection.specs.declared.Named.{Named}
-use Rattle.selection.specs.declared.Named.TheVariants.{Lines, Refused}
 
 -- "A selection is a 64-bit number whose bit i stands for line i"
 unfoldable pub names : ℕ → ℕ → Bool
@@ -33,8 +28,3 @@ selected selection lines i = cond (names selection i) (lines i) (without_amplitu
 unfoldable pub selection_of : (ℕ → Bool) → ℕ → ℕ
 selection_of chosen zero = 0
 selection_of chosen (suc n) = selection_of chosen n + cond (chosen n) (2 ^ n) 0
-
--- the number and the value of each answer
-abbrev pub tells : Named → Told ℕ
-tells (Lines n) = accepted n
-tells (Refused r) = refused (refusal_number r)

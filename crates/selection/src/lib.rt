@@ -6,17 +6,10 @@ ghost use Rattle.std.specs.Prelude.{◌≡◌, ◌<◌};
 ghost use Rattle.refusals.specs.Numbers.{answer_number};
 ghost use Rattle.selection.specs.Selection.{names as names_line, lines_named, selection_refusal};
 
-use refusals::{Answer, Refusal};
-
-// The answer of a call that takes a selection.
-#[derive(Clone, Copy)]
-pub enum Named {
-    // How many lines the selection names.
-    Lines(u32),
-    Refused(Refusal),
-}
+use refusals::Refusal;
 
 // Whether a selection names line i.
+#[tactic(auto, unfolding(crate::specs::Selection::names))]
 pub fn names(selection: u64, i: usize) -> bool
     requires { i < 49 }
     ensures { result ≡ names_line selection i }
@@ -25,20 +18,22 @@ pub fn names(selection: u64, i: usize) -> bool
 }
 
 // Refused: 14, a bit above 48.
-pub fn tested(selection: u64) -> Answer
+#[tactic(auto, unfolding(crate::specs::Selection::selection_refusal))]
+pub fn tested(selection: u64) -> Result<(), Refusal>
     ensures { answer_number result ≡ selection_refusal selection }
 {
     if limits::is_selection(selection) {
-        Answer::Accepted
+        Ok(())
     } else {
-        Answer::Refused(Refusal::SelectionValue)
+        Err(Refusal::SelectionValue)
     }
 }
 
 // How many lines a selection names.
+#[tactic(auto, using(crate::proofs::Laws::lines_counted))]
 pub fn lines_named(selection: u64) -> u32
     requires { selection_refusal selection ≡ 0 }
     ensures { result ≡ lines_named selection }
 {
-    u64::count_ones(selection)
+    selection.count_ones()
 }

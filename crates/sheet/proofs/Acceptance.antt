@@ -15,8 +15,6 @@ use Rattle.whole.proofs.Tests.{and_left, and_right, both_ends}
 use Rattle.limits.specs.Limits.{is_line_count, is_tide_count, is_place_count, is_multiplier, is_sheet_degree}
 use Rattle.sheet.specs.Sheet.{line_count, tide_count, place_count, sheet_end, multiplier, admittance, degree, order, s_cos, s_sin, coefficient}
 use Rattle.sheet.specs.Accepted.{shaped, line_valid, row_valid, counts_valid, s_zero, place_valid, precedes, ascending, valid, untwinned, reached, own_refusal, sheet_refusal}
-use Rattle.sheet.specs.declared.Layout.{Layout}
-use Rattle.sheet.specs.Inner.{Whole, Passed}
 use Rattle.refusals.proofs.Outcomes.{first_none}
 use Rattle.whole.proofs.Counted.{all_at, all_of}
 use Rattle.whole.proofs.Parts.{no_size}
@@ -186,9 +184,6 @@ accepted s e =
       ascending = λ j h. ranked (v.places j (omega arith)).order_most (v.before j h);
       degrees = λ j h. not_fallen (v.before j h);
     }
-
-pub whole_of : {s : List ℕ} {l : Layout} → Passed s l → Whole s l
-whole_of {s} p = record { laid = p.laid; length = (accepted s p.own).shape.length }
 
 -- ---- 9
 pub accepted_for : (s : List ℕ) (n : ℕ) → sheet_refusal s n ≡ 0 → (own_refusal s ≡ 0) × ((j : ℕ) → j < place_count s → degree s j ≤ n)

@@ -1,34 +1,27 @@
--- Where a number of the sheet stands by its layout, and that it lies within a sheet that is whole.
+-- That the sections of a sheet lie within it where it ends as its counts say, and where each count is read.
 use mathlib.Core.List.{List}
 use mathlib.Core.Path.{◌≡◌, refl, ap, ◌∙◌}
 use Prim.Native.Nat.{ℕ, ◌+◌, ◌*◌, ◌≤◌, ◌<◌}
 use native.Mathlib.Nat.{mul-le-mul_left}
 use native.Mathlib.Omega.{arith}
 use lib.ListN.{length}
-use Rattle.sheet.specs.declared.Layout.{Layout}
-use Rattle.sheet.specs.Sheet.{line_count, line_start, tides_start, tide_count, place_count, row_start, place_start}
+use Rattle.sheet.specs.Sheet.{line_count, line_start, tides_start, tide_count, place_count, row_start, place_start, sheet_end}
 use Rattle.words.specs.Words.{half_at}
-use Rattle.sheet.specs.Inner.{Laid, Whole}
+use Rattle.sheet.specs.Inner.{Laid}
 
 -- item k of t items of n numbers each
 item_in : (n k t : ℕ) → k < t → n * k + n ≤ n * t
 item_in n k t h = omega (arith, mul-le-mul_left n h)
 
-module _ {s : List ℕ} {l : Layout} (w : Whole s l) where
+module _ (s : List ℕ) (whole : length s ≡ sheet_end s) where
   pub line_in : (f : ℕ) → f < line_count s → line_start f + 6 ≤ length s
-  line_in f h = omega (arith, item_in 6 f (line_count s) h, w.length)
+  line_in f h = omega (arith, item_in 6 f (line_count s) h)
 
   pub row_in : (k : ℕ) → k < tide_count s → row_start s k + 4 * line_count s ≤ length s
-  row_in k h = omega (arith, item_in (line_count s) k (tide_count s) h, w.length)
+  row_in k h = omega (arith, item_in (line_count s) k (tide_count s) h)
 
   pub place_in : (j : ℕ) → j < place_count s → place_start s j + (2 + 16 * tide_count s) ≤ length s
-  place_in j h = omega (arith, item_in (2 + 16 * tide_count s) j (place_count s) h, w.length)
-
-  pub row_is : (k : ℕ) → l.rows + 4 * (l.lines * k) ≡ row_start s k
-  row_is k = omega (arith, ap (λ (n : ℕ). n * k) w.laid.lines, w.laid.rows)
-
-  pub place_is : (j : ℕ) → l.first + (2 + 16 * l.tides) * j ≡ place_start s j
-  place_is j = omega (arith, ap (λ (n : ℕ). n * j) w.laid.tides, w.laid.first)
+  place_in j h = omega (arith, item_in (2 + 16 * tide_count s) j (place_count s) h)
 
 -- each count read where the section before it ends
 module _ (s : List ℕ) (l t p : ℕ) (e : l ≡ half_at s 0) (f : t ≡ half_at s (2 + 6 * l)) (g : p ≡ half_at s (2 + 6 * l + 2 + 4 * (l * t))) where

@@ -7,7 +7,7 @@ use native.Mathlib.Omega.{arith}
 use borrow.Author.Tests.{eqb-true, eq-eqb}
 use lib.Dec.{eqb}
 use lib.IntN.{ℤ, nat_abs, ◌-ℤ◌}
-use Rattle.arguments.specs.Phase.{Multipliers}
+use Rattle.arguments.specs.declared.Multipliers.{Multipliers}
 use Rattle.whole.specs.Sum.{all_to}
 use Rattle.whole.proofs.Counted.{all_at, all_of}
 use Rattle.whole.proofs.Parts.{same, difference, abs, abs_le}

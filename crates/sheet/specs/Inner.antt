@@ -1,7 +1,6 @@
--- Inner contracts, no words of 01: what the code knows of a sheet's bytes before it reads them.
-use Rattle.std.specs.Prelude.{List, ◌≡◌, ℕ, length}
+-- Inner contracts, no words of 01: where a sheet's sections stand.
+use Rattle.std.specs.Prelude.{List, ◌≡◌, ℕ}
 use Rattle.sheet.specs.declared.Layout.{Layout}
-use Rattle.sheet.specs.Accepted.{own_refusal}
 use Rattle.sheet.specs.Sheet.{line_count, tide_count, place_count, row_start, place_start, sheet_end}
 
 -- the sheet's counts, where its first row and its first place stand, and where it ends
@@ -12,13 +11,3 @@ pub record Laid (s : List ℕ) (l : Layout) : Type 0 where
   pub rows : l.rows ≡ row_start s 0
   pub first : l.first ≡ place_start s 0
   pub end : l.end ≡ sheet_end s
-
--- the same of a sheet that ends where its length says, so that every number in it can be read
-pub record Whole (s : List ℕ) (l : Layout) : Type 0 where
-  pub laid : Laid s l
-  pub length : length s ≡ sheet_end s
-
--- the same of a sheet that passed its own tests
-pub record Passed (s : List ℕ) (l : Layout) : Type 0 where
-  pub laid : Laid s l
-  pub own : own_refusal s ≡ 0

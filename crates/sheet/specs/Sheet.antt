@@ -1,6 +1,8 @@
 -- Document 01, "Model sheet and ocean tide": what a sheet's bytes say.
 use Rattle.std.specs.Prelude.{List, ℕ, ◌+◌, ◌*◌, ◌^◌, ℤ}
-use Rattle.arguments.specs.Phase.{Multipliers}
+use Rattle.arguments.specs.declared.Multipliers.{Multipliers}
+use Rattle.sheet.specs.declared.Column.{Column}
+use Rattle.sheet.specs.declared.Column.TheVariants.{CCos, SCos, CSin, SSin}
 use Rattle.words.specs.Words.{byte_at, half_at, word_at, twos_complement}
 
 -- ---- "Three sections, each after its 16-bit count"
@@ -64,6 +66,13 @@ c_sin = 2
 
 abbrev pub s_sin : ℕ
 s_sin = 3
+
+-- a column's number
+abbrev pub column : Column → ℕ
+column CCos = c_cos
+column SCos = s_cos
+column CSin = c_sin
+column SSin = s_sin
 
 -- of place j and tide k, in column q
 unfoldable pub coefficient : List ℕ → ℕ → ℕ → ℕ → ℤ

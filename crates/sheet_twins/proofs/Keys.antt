@@ -17,7 +17,7 @@ pub digit_small : (k : ℤ) → nat_abs k ≤ 13 → digit k ≤ 26
 unfolding digit
 digit_small k h = omega (arith, abs_sum k (pos 13))
 
-pub raised_up : (k : ℤ) → nat_abs k ≤ 13 → dn (k +ℤ pos 13) ≤ up (k +ℤ pos 13)
+raised_up : (k : ℤ) → nat_abs k ≤ 13 → dn (k +ℤ pos 13) ≤ up (k +ℤ pos 13)
 raised_up k h = omega (arith, sum k (pos 13), abs k)
 
 digit_up : (z : ℤ) → dn z ≤ up z → nat_abs z ≡ up z

@@ -16,13 +16,23 @@ plus_at [] (y ∷ ys) k = sym (+ℤ_idl (get_or (y ∷ ys) k (pos 0)))
 plus_at (x ∷ xs) (y ∷ ys) zero = refl
 plus_at (x ∷ xs) (y ∷ ys) (suc k) = plus_at xs ys k
 
-pub three : (l : List ℤ) (x y z : ℤ) → 3 ≤ length l
+pub three_set : (l : List ℤ) (x y z : ℤ) → 3 ≤ length l
     → set (set (set l 0 (get_or l 0 (pos 0) +ℤ x)) 1 (get_or l 1 (pos 0) +ℤ y)) 2 (get_or l 2 (pos 0) +ℤ z) ≡ plus l (x ∷ y ∷ z ∷ [])
 unfolding plus
-three [] x y z h = absurd (omega arith)
-three (a ∷ []) x y z h = absurd (omega arith)
-three (a ∷ b ∷ []) x y z h = absurd (omega arith)
-three (a ∷ b ∷ c ∷ l) x y z h = refl
+three_set [] x y z h = absurd (omega arith)
+three_set (a ∷ []) x y z h = absurd (omega arith)
+three_set (a ∷ b ∷ []) x y z h = absurd (omega arith)
+three_set (a ∷ b ∷ c ∷ l) x y z h = refl
+
+-- what is set before an entry leaves it
+pub second_kept : (l : List ℤ) (x : ℤ) → get_or (set l 0 x) 1 (pos 0) ≡ get_or l 1 (pos 0)
+second_kept [] x = refl
+second_kept (a ∷ l) x = refl
+
+pub third_kept : (l : List ℤ) (x y : ℤ) → get_or (set (set l 0 x) 1 y) 2 (pos 0) ≡ get_or l 2 (pos 0)
+third_kept [] x y = refl
+third_kept (a ∷ []) x y = refl
+third_kept (a ∷ b ∷ l) x y = refl
 
 -- a count of step one and a small correction
 module _ (x y : ℤ) (a : nat_abs x ≤ 2 ^ 53) (b : nat_abs y ≤ 2 ^ 33) where

@@ -2,13 +2,8 @@
 use Rattle.std.specs.Prelude.{List, ◌^◌, ◌≤◌, ℤ, nat_abs}
 use Rattle.bands.specs.declared.Corrections.{Corrections as LineCorrections}
 use Rattle.bands.specs.Inner.{Small as SmallCorrections}
-use Rattle.step_one.specs.declared.Corrections.{Corrections}
 use Rattle.step_one.specs.Inner.{Small}
 use Rattle.step_one.specs.StepOne.{Counts}
-
--- the counts of an answer
-abbrev pub counts_in : Corrections → Counts
-counts_in d = record { c = d.c; s = d.s }
 
 -- step one's counts of at most 2^53, and three small corrections
 pub record ThreeSmall (by : List ℤ) (x y z : ℤ) : Type 0 where

@@ -1,16 +1,18 @@
 -- The test and the counts of a whole list, from those of its elements.
 use mathlib.Core.Path.{◌≡◌, refl, sym, ◌∙◌, subst}
-use mathlib.Core.Bool.{Bool, true, false, ◌&&◌}
+use mathlib.Core.Bool.{true}
 use mathlib.Core.List.{List, [], ◌∷◌, map}
 use Prim.Native.Nat.{ℕ, zero, suc, ◌^◌, ◌≤◌, ◌<◌}
 use native.Mathlib.Nat.{not-suc-le-zero, le_of_suc-le-suc, zero-lt-suc}
 use native.Mathlib.Omega.{arith}
 use lib.Dec.{T}
 use lib.IntN.{ℤ, pos, nat_abs}
-use lib.ListN.{length, get_or, length-map, get_or-map}
+use lib.ListN.{length, get_or, set, length-map, get_or-map}
 use lib.Seq.{ext_get_or}
 use lib.Ieee.{Float, nan}
 use lib.Ieee.Fits.{and_l, and_r}
+use Rattle.whole.specs.Listed.{listed}
+use Rattle.whole.proofs.Listed.{is_listed}
 use Rattle.limits.specs.Limits.{is_countable}
 use Rattle.count.specs.Count.{count}
 use Rattle.count.proofs.Edge.{count_small}
@@ -20,16 +22,6 @@ pub all_true : (xs : List Float) → ((j : ℕ) → j < length xs → is_countab
 unfolding all_countable
 all_true [] h = refl
 all_true (x ∷ xs) h = rw (h 0 (zero-lt-suc (length xs)), ← all_true xs (λ j l. h (suc j) (omega arith)))
-
-pub one_false : (xs : List Float) (j : ℕ) → j < length xs → is_countable (get_or xs j nan) ≡ false → false ≡ all_countable xs
-unfolding all_countable
-one_false [] j l h = absurd (not-suc-le-zero l)
-one_false (x ∷ xs) zero l h = rw h
-one_false (x ∷ xs) (suc j) l h = last (is_countable x) (all_countable xs) (one_false xs j (le_of_suc-le-suc l) h)
-  where
-    last : (a b : Bool) → false ≡ b → false ≡ (a && b)
-    last true b e = e
-    last false b e = refl
 
 pub each : (xs : List Float) → T (all_countable xs) → (j : ℕ) → j < length xs → T (is_countable (get_or xs j nan))
 unfolding all_countable
@@ -42,6 +34,13 @@ unfolding counts_c count
 counted xs out e h =
     ext_get_or (pos 0) out (map count xs) (e ∙ sym (length-map xs count))
     (λ j l. h j (subst (λ (n : ℕ). j < n) e l) ∙ sym (get_or-map count xs j nan))
+
+-- the counts with none at order 0
+pub none_at_order_0 : (xs : List Float) → length xs ≡ 10 → set (set (set (counts_c xs) 0 (pos 0)) 3 (pos 0)) 7 (pos 0) ≡ counts_s xs
+unfolding counts_c counts_s count listed
+none_at_order_0 xs ten =
+    let e : counts_c xs ≡ listed (λ k. count (get_or xs k nan)) 10 = is_listed (pos 0) (map count xs) _ 10 (length-map xs count ∙ ten) (λ k h. get_or-map count xs k nan) in
+    rw e refl
 
 -- every count is at most 2^52 in size, and what stands past the end is 0
 pub counts_c_small : (xs : List Float) → T (all_countable xs) → (k : ℕ) → nat_abs (get_or (counts_c xs) k (pos 0)) ≤ 2 ^ 52

@@ -1,7 +1,6 @@
 pub mod Each
 pub mod Permanent
 pub mod Places
-pub mod Order
 pub mod Counted
 pub mod Table
 pub mod Worked

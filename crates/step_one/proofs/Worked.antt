@@ -3,6 +3,7 @@
 use mathlib.Core.Path.{◌≡◌, refl}
 use mathlib.Core.List.{[], ◌∷◌}
 use lib.IntN.{pos, neg_ℤ}
+use Rattle.std.specs.Float.{float_is_finite}
 use lib.Ieee.{round, neg, add, sub, mul, div, lt, eq, le}
 use Rattle.whole.specs.Nearest.{signed, nearest}
 use Rattle.doubles.specs.Doubles.{decimal, minus_decimal, number}
@@ -52,6 +53,6 @@ expected Anelastic =
     }
 
 pub moon_and_sun : (love : LoveModel) → corrections moon sun love ≡ accepted (expected love)
-unfolding corrections sighted finite_body in_reach of_length_one measured floats changes all_countable counts_c counts_s without_permanent permanent_part shared terms loves loves3 norms roots E F count signed nearest round neg add sub mul div lt eq le
+unfolding corrections sighted finite_body float_is_finite in_reach of_length_one measured floats changes all_countable counts_c counts_s without_permanent permanent_part shared terms loves loves3 norms roots E F count signed nearest round neg add sub mul div lt eq le
 moon_and_sun Elastic = refl
 moon_and_sun Anelastic = refl

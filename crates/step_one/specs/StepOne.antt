@@ -1,10 +1,8 @@
 -- Document 01, "Step one": the corrections of the Moon and the Sun in counts, with refusals 3 to 6.
-use Rattle.std.specs.Prelude.{Bool, true, cond, ◌&&◌, List, [], ◌∷◌, map, ℕ, Float, ℤ, pos, ◌-ℤ◌, get_or, set}
+use Rattle.std.specs.Prelude.{Bool, cond, ◌&&◌, List, [], ◌∷◌, map, ℕ, Float, ℤ, pos, ◌-ℤ◌, get_or, set}
 use Rattle.std.specs.Float.{nan}
+use Rattle.std.specs.List.{list_all}
 use Rattle.choices.specs.declared.LoveModel.{LoveModel}
-use Rattle.refusals.specs.declared.Answer.{Answer}
-use Rattle.refusals.specs.declared.Answer.TheVariants.{Accepted, Refused}
-use Rattle.refusals.specs.Numbers.{refusal_number}
 use Rattle.refusals.specs.Told.{Told, next}
 use Rattle.refusals.specs.Told.Told.{accepted, refused}
 use Rattle.limits.specs.Limits.{is_countable}
@@ -27,9 +25,8 @@ places =
     place 2 0 ∷ place 2 1 ∷ place 2 2 ∷ place 3 0 ∷ place 3 1 ∷ place 3 2 ∷ place 3 3 ∷ place 4 0 ∷ place 4 1 ∷ place 4 2 ∷ []
 
 -- what is added at each of them, to C and to S
-pub record Counts : Type 0 where
-  pub c : List ℤ
-  pub s : List ℤ
+abbrev pub Counts : Type 0
+Counts = Corrections
 
 -- dC and dS times 10^15: the Moon at m, the Sun at s
 unfoldable pub floats : Body → Direction → Body → Direction → LoveModel → Changes
@@ -37,8 +34,7 @@ floats moon m sun s love = changes (loves love) loves3 (shared (terms moon.ratio
 
 -- each strictly between -2^52 and 2^52
 unfoldable pub all_countable : List Float → Bool
-all_countable [] = true
-all_countable (x ∷ xs) = is_countable x && all_countable xs
+all_countable xs = list_all is_countable xs
 
 -- "nearest count of the float's exact value"
 unfoldable pub counts_c : List Float → List ℤ
@@ -64,11 +60,3 @@ measured f love =
 -- "the Moon is tested for 3, 4, 5 before the Sun"
 unfoldable pub corrections : Body → Body → LoveModel → Told Counts
 corrections moon sun love = next (sighted moon) (λ m. next (sighted sun) (λ s. measured (floats moon m sun s love) love))
-
--- the number and the values of each answer
-abbrev pub told : Answer → Counts → Told Counts
-told Accepted k = accepted k
-told (Refused r) k = refused (refusal_number r)
-
-abbrev pub tells : Corrections → Told Counts
-tells r = told r.answer (record { c = r.c; s = r.s })

@@ -1,7 +1,7 @@
 -- Document 02, T-08: a record that holds the values worked out afresh from its phases gives what step two gives from the phases.
 use mathlib.Core.Path.{◌≡◌, refl, ap}
 use Prim.Native.Nat.{ℕ}
-use Rattle.arguments.specs.Phase.{Phases}
+use Rattle.arguments.specs.declared.Phases.{Phases}
 use Rattle.bands.specs.Bands.{Coefficient, C20, C21, S21, C22, S22, term, sum_of, correction_of, corrections_of}
 use Rattle.choices.specs.declared.LoveModel.{LoveModel}
 use Rattle.hour.specs.declared.Hour.{Hour}

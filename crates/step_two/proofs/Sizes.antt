@@ -8,7 +8,7 @@ use lib.Signed.{mag}
 use mir.Syntax.{w32, w64}
 use mir.Val.{SFits, to_z, of_z}
 use mir.Facts.{to_z-of_z}
-use Rattle.arguments.specs.Phase.{Phases}
+use Rattle.arguments.specs.declared.Phases.{Phases}
 use Rattle.bands.specs.Inner.{Light, Small}
 use Rattle.bands.proofs.Sizes.{corrections_small as lines-small}
 use Rattle.choices.specs.declared.LoveModel.{LoveModel}

@@ -1,6 +1,6 @@
 -- Document 01, "Step two (001, Tables 6.2)", and document 02, T-04 and T-08.
 use Rattle.std.specs.Prelude.{ℕ, ℤ}
-use Rattle.arguments.specs.Phase.{Phases}
+use Rattle.arguments.specs.declared.Phases.{Phases}
 use Rattle.bands.specs.declared.Corrections.{Corrections}
 use Rattle.bands.specs.Bands.{Coefficient, sum_of, corrections_of}
 use Rattle.choices.specs.declared.LoveModel.{LoveModel}

@@ -1,7 +1,7 @@
 -- The third demand for step two: "each second-step solid correction less than one count" from its exact sum, which is "the same sum with no
 -- rounding anywhere".
 use Rattle.std.specs.Prelude.{ℕ, ◌+◌, ◌*◌, ◌^◌, ◌≤◌, ◌<◌, ℤ, pos, nat_abs, ◌-ℤ◌, ◌*ℤ◌}
-use Rattle.arguments.specs.Phase.{Phases}
+use Rattle.arguments.specs.declared.Phases.{Phases}
 use Rattle.bands.specs.declared.Line.{Line}
 use Rattle.bands.specs.Bands.{Coefficient, C20, C21, S21, C22, S22, sum_of, correction_of}
 use Rattle.choices.specs.declared.LoveModel.{LoveModel}

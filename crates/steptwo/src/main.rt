@@ -10,10 +10,8 @@ fn main(rt: HostRuntime) {
     let read = replay::read_full(&mut rt.reader(), &mut input);
     let mut text = [0u8; 256];
     let length = listing::listing(&input[..read], &mut text);
-    if rt.write_all(&text[..length]).is_ok() {
-        return;
+    if rt.write_all(&text[..length]).is_err() {
+        // The status is 0 all the same, so a line on standard error has to tell.
+        eprintln!(rt; "steptwo: the output could not be written").ok();
     }
-    // The status is 0 all the same, so a line on standard error has to tell.
-    rt.eprintln("steptwo: the output could not be written")
-        .is_ok();
 }

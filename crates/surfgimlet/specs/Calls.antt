@@ -1,6 +1,6 @@
 -- The calls over a field: the number answered, tests in their order, and every entry of both lists afterwards.
 use Rattle.std.specs.Prelude.{List, [], ◌∷◌, ℕ, ℤ}
-use Rattle.arguments.specs.Phase.{Phases}
+use Rattle.arguments.specs.declared.Phases.{Phases}
 use Rattle.bands.specs.declared.Corrections.{Corrections}
 use Rattle.bands.specs.Bands.{for_c, for_s}
 use Rattle.bodies.specs.declared.Body.{Body}

@@ -1,41 +1,35 @@
 // Surfgimlet: tide corrections to the coefficients of a gravity field, and the permanent tide of C20. These are all its calls.
 // A field of degree n is two lent lists of counts of 10^-15, C and S, of (n+1)(n+2)/2 entries, place (n,m) at n(n+1)/2+m.
-// A call over a field tests, works out and adds. It answers Accepted, or Refused with every entry of both lists as it was.
+// A call over a field tests, works out and adds. It answers Ok, or the Refusal with every entry of both lists as it was.
 
 #![tactic(auto)]
 
 ghost use Rattle.std.specs.Prelude.{◌≡◌};
 ghost use Rattle.bands.specs.Bands.{for_c, for_s};
-ghost use Rattle.bands.specs.Inner.{Bounded, rounded_of};
-ghost use Rattle.doodson.specs.Doodson.{read_doodson, write_doodson, tells_read, tells_written};
+ghost use Rattle.doodson.specs.Doodson.{read_doodson, write_doodson};
 ghost use Rattle.field.specs.Added.{added_at};
-ghost use Rattle.field.specs.Field.{field_refusal};
 ghost use Rattle.hour.specs.Hour.{hour_at, start_hour, moved_hour};
 ghost use Rattle.icgem_file.specs.File.{file_head, read_file};
-ghost use Rattle.icgem_read.specs.Told.{Reads, tells as tells_file};
-ghost use Rattle.icgem_write.specs.Outcome.{Writes, tells as tells_wrote};
-ghost use Rattle.lines.specs.Lines.{find_line, tells as tells_sought};
-ghost use Rattle.permanent.specs.Systems.{moved_c20, tells as tells_moved};
-ghost use Rattle.refusals.specs.Numbers.{answer_number};
-ghost use Rattle.refusals.specs.Outcome.{Gives, GivesValue, first_of};
+ghost use Rattle.icgem_read.specs.Told.{Reads};
+ghost use Rattle.icgem_write.specs.Outcome.{Writes};
+ghost use Rattle.lines.specs.Lines.{find_line};
+ghost use Rattle.permanent.specs.Systems.{moved_c20};
+ghost use Rattle.refusals.specs.Numbers.{answer_number, tells};
+ghost use Rattle.refusals.specs.Outcome.{Gives, GivesValue};
 ghost use Rattle.profiles.specs.Profiles.{all_lines, major_lines};
-ghost use Rattle.selection.specs.Selection.{lines_named, tells as tells_named};
-ghost use Rattle.surfgimlet.specs.Calls.{places_c, places_s, five_corrected, solid_tide, own_lines, pole_tide, ocean_tide};
+ghost use Rattle.selection.specs.Selection.{lines_named};
+ghost use Rattle.surfgimlet.specs.Calls.{places_c, places_s, solid_tide, own_lines, pole_tide, ocean_tide};
 ghost use Rattle.surfgimlet.specs.Inner.{FiveReady};
 
 use arguments::{Argument, Multipliers, Phases};
 use bands::Corrections;
 use bodies::Body;
 use choices::{Frame, LoveModel, PermanentSystem};
-use doodson::{Read, Written};
 use hour::Hour;
-use icgem_read::FileTold;
-use icgem_write::Wrote;
-use lines::Sought;
-use own::{OwnLine, Summed};
-use permanent::Moved;
-use refusals::Answer;
-use selection::Named;
+use icgem_file::FileHead;
+use lines::Found;
+use own::OwnLine;
+use refusals::Refusal;
 
 // The places (2,0) and (2,1); those that follow are the next ones in the list.
 const PLACE_20: usize = 3;
@@ -53,19 +47,6 @@ fn add_five(c: &mut [i64], s: &mut [i64], d: Corrections)
     field::add_run(s, PLACE_21, &in_s);
 }
 
-// Adds the nearest of five sums, unless the field, or then the list that they are of, is refused.
-fn add_own(n: u32, c: &mut [i64], s: &mut [i64], sum: Summed) -> Answer
-    requires { Bounded sum.sums }
-    ensures { Gives (five_corrected (first_of (field_refusal n c.old s.old) (answer_number sum.answer)) c.old s.old (rounded_of sum.sums)) (answer_number result) c.new s.new }
-{
-    let listed = sum.answer;
-    let answer = refusals::first_of(field::tested(n, c, s), listed);
-    if let Answer::Accepted = answer {
-        add_five(c, s, bands::rounded_of(sum.sums));
-    }
-    answer
-}
-
 // Solid tide (001, eqs. 1 to 7 and Tables 6.2; document 01, "Step one" and "Step two"; document 02, T-04, T-06 and T-08).
 // Given: a field, the Moon, the Sun, the Love model, an hour whose kept waves are read, a selection whose bit i names printed line i.
 // Done: the corrections of both steps are added as one: of degree 2, 3 and 4 what the bodies raise, the permanent part of C20 left out,
@@ -81,25 +62,16 @@ pub fn solid_tide(
     love: LoveModel,
     hour: Hour,
     selection: u64,
-) -> Named
-    ensures { GivesValue (solid_tide n c.old s.old moon sun love hour selection) (lines_named selection) (tells_named result) c.new s.new }
+) -> Result<u32, Refusal>
+    ensures { GivesValue (solid_tide n c.old s.old moon sun love hour selection) (lines_named selection) (tells result) c.new s.new }
 {
-    let chosen = selection::tested(selection);
-    let one = step_one::corrections_of(moon, sun, love);
-    let bodies = one.answer;
-    let given = refusals::first_of(chosen, bodies);
-    match refusals::first_of(field::tested(n, c, s), given) {
-        Answer::Accepted => {
-            let two = step_two::corrections_of(hour, love, selection);
-            let d = solid::with_lines(one, two);
-            let in_c = d.c;
-            let in_s = d.s;
-            field::add_run(c, PLACE_20, &in_c);
-            field::add_run(s, PLACE_20, &in_s);
-            Named::Lines(selection::lines_named(selection))
-        }
-        Answer::Refused(why) => Named::Refused(why),
-    }
+    field::tested(n, c, s).and(selection::tested(selection))?;
+    let one = step_one::corrections_of(moon, sun, love)?;
+    let two = step_two::corrections_of(hour, love, selection);
+    let both = solid::with_lines(one, two);
+    field::add_run(c, PLACE_20, &both.c);
+    field::add_run(s, PLACE_20, &both.s);
+    Ok(selection::lines_named(selection))
 }
 
 // The hour that others begin from (document 02, T-08): all phases zero, with the waves of the printed lines at them.
@@ -141,28 +113,39 @@ pub fn major_lines() -> u64
 // Given: a field, a list of line records, six phases.
 // Done: the corrections of C20, C21, S21, C22 and S22 are added, each the nearest of its whole sum.
 // Refused: 1, 2, then 12, more than 64 records, then 13, a value of a record out of range.
-pub fn own_lines(n: u32, c: &mut [i64], s: &mut [i64], lines: &[OwnLine], phases: Phases) -> Answer
+pub fn own_lines(
+    n: u32,
+    c: &mut [i64],
+    s: &mut [i64],
+    lines: &[OwnLine],
+    phases: Phases,
+) -> Result<(), Refusal>
     ensures { Gives (own_lines n c.old s.old lines.now phases) (answer_number result) c.new s.new }
 {
-    let sum = own::sums_of(lines, phases);
-    add_own(n, c, s, sum)
+    let sums = field::tested(n, c, s).and(own::sums_of(lines, phases))?;
+    add_five(c, s, bands::rounded_of(sums));
+    Ok(())
 }
 
 // Solid pole tide (001, "Solid Earth Pole Tide"; document 02, T-05).
 // Given: a field, the pole's offsets xp and yp from its mean in micro-arcseconds, yp towards 90 degrees west, the Love model.
 // Done: the corrections of C21 and S21 are added.
 // Refused: 1, 2, then 15, an offset outside -1,000,000..1,000,000.
-pub fn pole_tide(n: u32, c: &mut [i64], s: &mut [i64], xp: i64, yp: i64, love: LoveModel) -> Answer
+pub fn pole_tide(
+    n: u32,
+    c: &mut [i64],
+    s: &mut [i64],
+    xp: i64,
+    yp: i64,
+    love: LoveModel,
+) -> Result<(), Refusal>
     ensures { Gives (pole_tide n c.old s.old xp yp love) (answer_number result) c.new s.new }
 {
-    let offsets = pole::tested(xp, yp);
-    let answer = refusals::first_of(field::tested(n, c, s), offsets);
-    if let Answer::Accepted = answer {
-        let d = pole::corrections_of(xp, yp, love);
-        field::correct(c, PLACE_21, d.c21);
-        field::correct(s, PLACE_21, d.s21);
-    }
-    answer
+    field::tested(n, c, s).and(pole::tested(xp, yp))?;
+    let d = pole::corrections_of(xp, yp, love);
+    field::correct(c, PLACE_21, d.c21);
+    field::correct(s, PLACE_21, d.s21);
+    Ok(())
 }
 
 // Ocean tide (002; document 01, "Model sheet and ocean tide").
@@ -176,23 +159,25 @@ pub fn ocean_tide(
     sheet: &[u8],
     phases: Phases,
     frame: Frame,
-) -> Answer
+) -> Result<(), Refusal>
     ensures { Gives (ocean_tide n c.old s.old sheet.now phases frame) (answer_number result) c.new s.new }
 {
-    let l = sheet::layout_of(sheet);
-    let answer = refusals::first_of(field::tested(n, c, s), accept::tested(sheet, l, n));
-    if let Answer::Accepted = answer {
-        ocean::add_tide(c, s, sheet, l, phases, frame);
-    }
-    answer
+    let sheet = field::tested(n, c, s).and(accept::tested(sheet, n))?;
+    ocean::add_tide(c, s, &sheet, phases, frame);
+    Ok(())
 }
 
 // The permanent tide of one C20 (document 01, "Permanent systems").
 // Given: a C20 in counts, the system it is in, the system wanted, the Love model.
 // Answered: the moved C20.
 // Refused: 2.
-pub fn move_c20(c20: i64, from: PermanentSystem, to: PermanentSystem, love: LoveModel) -> Moved
-    ensures { tells_moved result ≡ moved_c20 c20 from to love }
+pub fn move_c20(
+    c20: i64,
+    from: PermanentSystem,
+    to: PermanentSystem,
+    love: LoveModel,
+) -> Result<i64, Refusal>
+    ensures { tells result ≡ moved_c20 c20 from to love }
 {
     permanent::move_c20(c20, from, to, love)
 }
@@ -201,8 +186,8 @@ pub fn move_c20(c20: i64, from: PermanentSystem, to: PermanentSystem, love: Love
 // Given: the bytes of a file.
 // Answered: its degree, gravity constant in m3/s2, radius in millimetres and permanent system, each decimal exact and rounded once.
 // Refused: 17, then 18, then 19, then 20, each looking at the whole file.
-pub fn file_head(text: &[u8]) -> FileTold
-    ensures { tells_file result ≡ file_head text.now }
+pub fn file_head(text: &[u8]) -> Result<FileHead, Refusal>
+    ensures { tells result ≡ file_head text.now }
 {
     icgem_read::file_head(text)
 }
@@ -212,8 +197,8 @@ pub fn file_head(text: &[u8]) -> FileTold
 // Done: every entry of both lists is set, S at order 0 too: to the count of its line, or to zero where the file has none.
 // Answered: as file_head.
 // Refused: as file_head, then 1, lists that do not fit the file's degree.
-pub fn read_field(text: &[u8], c: &mut [i64], s: &mut [i64]) -> FileTold
-    ensures { Reads (read_file text.now c.old s.old) (tells_file result) c.new s.new }
+pub fn read_field(text: &[u8], c: &mut [i64], s: &mut [i64]) -> Result<FileHead, Refusal>
+    ensures { Reads (read_file text.now c.old s.old) (tells result) c.new s.new }
 {
     icgem_read::read_field(text, c, s)
 }
@@ -231,29 +216,29 @@ pub fn write_field(
     radius: u64,
     system: PermanentSystem,
     out: &mut [u8],
-) -> Wrote
-    ensures { Writes n c.now s.now constant radius system out.old (tells_wrote result) out.new }
+) -> Result<usize, Refusal>
+    ensures { Writes n c.now s.now constant radius system out.old (tells result) out.new }
 {
     icgem_write::write_field(n, c, s, constant, radius, system, out)
 }
 
 // A Doodson number's six multipliers (document 01, "Doodson numbers"). Refused: 10.
-pub fn multipliers_of(number: u32) -> Read
-    ensures { tells_read result ≡ read_doodson number }
+pub fn multipliers_of(number: u32) -> Result<Multipliers, Refusal>
+    ensures { tells result ≡ read_doodson number }
 {
     doodson::multipliers_of(number)
 }
 
 // The Doodson number that writes six multipliers. Refused: 10.
-pub fn number_of(n: Multipliers) -> Written
-    ensures { tells_written result ≡ write_doodson n }
+pub fn number_of(n: Multipliers) -> Result<u32, Refusal>
+    ensures { tells result ≡ write_doodson n }
 {
     doodson::number_of(n)
 }
 
 // A printed line by its Doodson number: its index 0..48 and its two printed amplitudes. Refused: 10, then 11.
-pub fn find_line(number: u32) -> Sought
-    ensures { tells_sought result ≡ find_line number }
+pub fn find_line(number: u32) -> Result<Found, Refusal>
+    ensures { tells result ≡ find_line number }
 {
     lines::find_line(number)
 }

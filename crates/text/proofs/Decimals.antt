@@ -1,9 +1,9 @@
 -- A number in decimal: its last digit stands after the digits of its tenth; and how many digits it has.
 use mathlib.Core.Path.{◌≡◌, refl, ap, ◌∙◌}
-use mathlib.Core.Bool.{Bool, true, false}
+use mathlib.Core.Bool.{Bool, true, false, cond}
 use mathlib.Core.List.{List, [], ◌∷◌, ◌++◌}
 use Prim.Native.Nat.{ℕ, zero, suc, ◌/◌, ◌%◌, ◌^◌, ◌≤◌, ◌<◌}
-use native.Mathlib.Nat.{pow-zero, pow-suc}
+use native.Mathlib.Nat.{pow-zero, pow-suc, one-le-pow}
 use native.Mathlib.Omega.{arith}
 use borrow.Author.Tests.{lt-ltb, le-ltb, ltb-true, ltb-false}
 use lib.Dec.{ltb}
@@ -34,6 +34,25 @@ last_digit (suc n) h =
     ap (λ (b : Bool). digits (suc n) b (suc n)) (le-ltb (suc n) 10 h)
     ∙ ap (λ (s : List ℕ). s ++ (digit (suc n % 10) ∷ [])) (same n (suc n / 10) (ltb (suc n / 10) 10) (suc n / 10) refl (omega arith) (omega arith))
 
+-- the digits before the last
+unfoldable pub leading : ℕ → List ℕ
+leading n = cond (ltb n 10) [] (decimal (n / 10))
+
+pub leading_none : (n : ℕ) → n < 10 → leading n ≡ []
+unfolding leading
+leading_none n h = rw (lt-ltb n 10 h) refl
+
+pub leading_some : (n : ℕ) → 10 ≤ n → leading n ≡ decimal (n / 10)
+unfolding leading
+leading_some n h = rw (le-ltb n 10 h) refl
+
+pub leading_last : (n : ℕ) → decimal n ≡ leading n ++ (digit (n % 10) ∷ [])
+leading_last n = split (ltb n 10) refl
+  where
+    split : (below : Bool) → ltb n 10 ≡ below → decimal n ≡ leading n ++ (digit (n % 10) ∷ [])
+    split true e = let same : n % 10 ≡ n = omega (arith, ltb-true n 10 e) in rw (leading_none n (ltb-true n 10 e), same) (one_digit n (ltb-true n 10 e))
+    split false e = rw (leading_some n (ltb-false n 10 e)) (last_digit n (ltb-false n 10 e))
+
 -- a number below 10^(k + 1) has at most k + 1 digits
 pub digits_most : (k n : ℕ) (below : Bool) → ltb n 10 ≡ below → n < 10 ^ suc k → length (decimal n) ≤ suc k
 digits_most zero n true e h = rw (one_digit n (ltb-true n 10 e)) (omega arith)
@@ -49,3 +68,11 @@ word_most n h = digits_most 19 n (ltb n 10) refl (omega arith)
 
 pub decimal_most : (n : ℕ) → n ≤ 2 ^ 63 → length (decimal n) ≤ 19
 decimal_most n h = digits_most 18 n (ltb n 10) refl (omega arith)
+
+-- one from 10^k to below 10^(k + 1) has k + 1
+pub digits_are : (k n : ℕ) → 10 ^ k ≤ n → n < 10 ^ suc k → length (decimal n) ≡ suc k
+digits_are zero n l h = rw (one_digit n (omega (arith, h, pow-suc 10 0, pow-zero 10))) refl
+digits_are (suc k) n l h =
+    let p = pow-suc 10 k in
+    let more = digits_are k (n / 10) (omega (arith, l, p)) (omega (arith, h, pow-suc 10 (suc k))) in
+    rw (last_digit n (omega (arith, l, p, one-le-pow k 10 (omega arith))), length-append (decimal (n / 10)) (digit (n % 10) ∷ [])) (omega (arith, more))

@@ -1,26 +1,19 @@
 -- A number by its sign and its size.
-use mathlib.Core.Path.{◌≡◌, refl, subst}
-use mathlib.Core.Bool.{true, false}
+use mathlib.Core.Path.{◌≡◌, refl}
 use mathlib.Core.List.{◌++◌}
 use Prim.Native.Nat.{suc, ◌^◌, ◌≤◌}
 use native.Mathlib.Omega.{arith}
-use borrow.Author.Tests.{ltb-true}
-use lib.Dec.{T}
+use borrow.Author.Tests.{le-ltb}
 use lib.IntN.{ℤ, pos, negsuc, nat_abs}
 use lib.ListN.{length}
 use lib.Signed.{lt_z}
-use Rattle.text.specs.Text.{ascii, decimal, number}
+use Rattle.text.specs.Text.{ascii, decimal, number, sign}
 use Rattle.text.proofs.Decimals.{decimal_most}
 
-pub below_zero : (z : ℤ) → lt_z z (pos 0) ≡ true → number z ≡ ascii "-" ++ decimal (nat_abs z)
-unfolding number
-below_zero (pos n) e = absurd (omega (arith, ltb-true n 0 e))
-below_zero (negsuc n) e = refl
-
-pub from_zero : (z : ℤ) → lt_z z (pos 0) ≡ false → number z ≡ decimal (nat_abs z)
-unfolding number
-from_zero (pos n) e = refl
-from_zero (negsuc n) e = absurd (subst T e tt)
+pub signed_number : (z : ℤ) → number z ≡ sign (lt_z z (pos 0)) ++ decimal (nat_abs z)
+unfolding number sign
+signed_number (pos n) = rw (le-ltb n 0 (omega arith)) refl
+signed_number (negsuc n) = refl
 
 -- a number of the machine has a sign and 19 digits at most
 pub number_most : (z : ℤ) → nat_abs z ≤ 2 ^ 63 → length (number z) ≤ 20

@@ -1,56 +1,97 @@
-// Text in a lent buffer: bytes, words and decimal numbers, each put at a place; the answer is the place after it.
+// Text in a lent buffer: bytes, words and decimal numbers, each put on a page after what was put before.
 
 #![tactic(auto)]
 
-ghost use Rattle.std.specs.Prelude.{[], ◌∷◌, ◌≡◌, ◌+◌, ◌≤◌, ◌<◌, length};
-ghost use Rattle.text.specs.Text.{decimal, number, last_digits, spaces};
-ghost use Rattle.text.specs.Inner.{Put};
+ghost use Rattle.std.specs.Prelude.{[], ◌∷◌, ◌≡◌, length};
+ghost use Rattle.text.specs.Text.{decimal, number, last_digits, sign, spaces};
 
-// Puts one byte.
-pub fn put_byte(out: &mut [u8], at: usize, byte: u8) -> usize
-    requires { at < length out.old }
-    ensures { Put out.old at (byte ∷ []) out.new result }
-{
-    out[at] = byte;
-    at + 1
+// A lent buffer, and the place of its next byte.
+#[derive(Drop)]
+pub struct Page<'a> {
+    out: &'a mut [u8],
+    pub at: usize,
 }
 
-// Puts a word as it stands.
-pub fn put_word(out: &mut [u8], at: usize, word: &[u8]) -> usize
-    requires { at + length word.now ≤ length out.old }
-    ensures { Put out.old at word.now out.new result }
-{
-    let mut i = 0;
-    while i < word.len() {
-        out[at + i] = word[i];
-        i += 1;
+impl<'a> Page<'a> {
+    ghost use Rattle.text.specs.Inner.{IsStartOf, HasRoom, Puts};
+
+    // A page at the buffer's start.
+    pub fn new(out: &'a mut [u8]) -> Page<'a>
+        ensures { IsStartOf out.entry result }
+    {
+        Page { out, at: 0 }
     }
-    at + i
-}
 
-// Puts a natural number in decimal.
-pub fn put_decimal(out: &mut [u8], at: usize, n: u64) -> usize
-    requires { at + length (decimal n) ≤ length out.old }
-    ensures { Put out.old at (decimal n) out.new result }
-{
-    if n < 10 {
-        put_byte(out, at, 48 + n as u8)
-    } else {
-        let next = put_decimal(out, at, n / 10);
-        put_byte(out, next, 48 + (n % 10) as u8)
+    // Puts one byte.
+    pub fn put_byte(&mut self, byte: u8)
+        requires { HasRoom self.old 1 }
+        ensures { Puts self.old (byte ∷ []) self.new }
+    {
+        self.out[self.at] = byte;
+        self.at += 1;
     }
-}
 
-// Puts a number in decimal, a negative one after its sign.
-pub fn put_number(out: &mut [u8], at: usize, z: i64) -> usize
-    requires { at + length (number z) ≤ length out.old }
-    ensures { Put out.old at (number z) out.new result }
-{
-    if z < 0 {
-        let next = put_byte(out, at, b'-');
-        put_decimal(out, next, whole::size_of(z))
-    } else {
-        put_decimal(out, at, whole::size_of(z))
+    // Puts a word as it stands.
+    pub fn put_word(&mut self, word: &str)
+        requires { HasRoom self.old (length word.now) }
+        ensures { Puts self.old word.now self.new }
+    {
+        let end = self.at + word.len();
+        self.out[self.at..end].copy_from_slice(word.as_bytes());
+        self.at = end;
+    }
+
+    // Puts so many spaces.
+    pub fn put_spaces(&mut self, count: usize)
+        requires { HasRoom self.old count }
+        ensures { Puts self.old (spaces count) self.new }
+    {
+        let end = self.at + count;
+        self.out[self.at..end].fill(b' ');
+        self.at = end;
+    }
+
+    // Puts a natural number in decimal.
+    // By hand, since std's `write!` promises its bytes only where it answers `Ok`, and this can't fail.
+    pub fn put_decimal(&mut self, n: u64)
+        requires { HasRoom self.old (length (decimal n)) }
+        ensures { Puts self.old (decimal n) self.new }
+    {
+        if 10 <= n {
+            self.put_decimal(n / 10);
+        }
+        self.put_byte(b'0' + (n % 10) as u8);
+    }
+
+    // Puts a minus sign, or nothing.
+    pub fn put_sign(&mut self, negative: bool)
+        requires { HasRoom self.old (length (sign negative)) }
+        ensures { Puts self.old (sign negative) self.new }
+    {
+        if negative {
+            self.put_byte(b'-');
+        }
+    }
+
+    // Puts a number in decimal, a negative one after its sign.
+    pub fn put_number(&mut self, z: i64)
+        requires { HasRoom self.old (length (number z)) }
+        ensures { Puts self.old (number z) self.new }
+    {
+        self.put_sign(z < 0);
+        self.put_decimal(z.unsigned_abs());
+    }
+
+    // Puts the last digits of a number.
+    pub fn put_last(&mut self, count: usize, n: u64)
+        requires { HasRoom self.old count }
+        ensures { Puts self.old (last_digits count n) self.new }
+    {
+        if count == 0 {
+            return;
+        }
+        self.put_last(count - 1, n / 10);
+        self.put_byte(b'0' + (n % 10) as u8);
     }
 }
 
@@ -58,37 +99,5 @@ pub fn put_number(out: &mut [u8], at: usize, z: i64) -> usize
 pub fn digits_in(n: u64) -> usize
     ensures { result ≡ length (decimal n) }
 {
-    let mut digits = 1;
-    let mut rest = n;
-    while 9 < rest {
-        rest = rest / 10;
-        digits += 1;
-    }
-    digits
-}
-
-// Puts so many spaces.
-pub fn put_spaces(out: &mut [u8], at: usize, count: usize) -> usize
-    requires { at + count ≤ length out.old }
-    ensures { Put out.old at (spaces count) out.new result }
-{
-    let mut i = 0;
-    while i < count {
-        out[at + i] = b' ';
-        i += 1;
-    }
-    at + i
-}
-
-// Puts the last digits of a number.
-pub fn put_last(out: &mut [u8], at: usize, count: usize, n: u64) -> usize
-    requires { at + count ≤ length out.old }
-    ensures { Put out.old at (last_digits count n) out.new result }
-{
-    if count == 0 {
-        at
-    } else {
-        let next = put_last(out, at, count - 1, n / 10);
-        put_byte(out, next, 48 + (n % 10) as u8)
-    }
+    n.max(1).ilog10() as usize + 1
 }

@@ -24,9 +24,9 @@ module _ (s : List ℕ) (w : ℕ → ℤ) (small : (f : ℕ) → nat_abs (w f) �
       ap (λ (z : ℤ). nearest z (10 ^ 6))
       (sum_same (λ f. admittance s k f *ℤ lowered waves f) (λ f. admittance s k f *ℤ w f) (line_count s) (λ f h. ap (λ (z : ℤ). admittance s k f *ℤ z) (lowered_is w small H f h)))
 
-  pub factors_are : (factors : List ℤ) → Lists (factor s (lowered waves)) (tide_count s) factors → Lists (factor s w) (tide_count s) factors
-  factors_are factors G = record { each = λ k h. G.each k h ∙ same_factor k }
+  pub factors_are : {v : ℕ → ℤ} → Lists (factor s (lowered waves)) (tide_count s) v → Lists (factor s w) (tide_count s) v
+  factors_are G = record { each = λ k h. G.each k h ∙ same_factor k }
 
--- the factors of an accepted sheet in a list
-pub factors_sized : {s : List ℕ} (A : Accepted s) (w : ℕ → ℤ) (small : (f : ℕ) → nat_abs (w f) ≤ 2 ^ 30) (factors : List ℤ) → Lists (factor s w) (tide_count s) factors → Sized 32 (tide_count s) factors
-factors_sized A w small factors G = record { each = λ k h. subst (λ (z : ℤ). nat_abs z ≤ 2 ^ 32) (sym (G.each k h)) (factor_size A w (λ f l. small f) k h) }
+-- the factors of an accepted sheet
+pub factors_sized : {s : List ℕ} (A : Accepted s) (w : ℕ → ℤ) (small : (f : ℕ) → nat_abs (w f) ≤ 2 ^ 30) {v : ℕ → ℤ} → Lists (factor s w) (tide_count s) v → Sized 32 (tide_count s) v
+factors_sized A w small G = record { each = λ k h. subst (λ (z : ℤ). nat_abs z ≤ 2 ^ 32) (sym (G.each k h)) (factor_size A w (λ f l. small f) k h) }

@@ -1,12 +1,11 @@
 -- Inner contracts, no words of 01: what the code keeps of the waves and the factors, once a call.
 use Rattle.std.specs.Prelude.{List, ◌≡◌, ℕ, ◌^◌, ◌≤◌, ◌<◌, ℤ, pos, nat_abs, ◌+ℤ◌, ◌-ℤ◌, get_or}
-use Rattle.arguments.specs.Phase.{Phases}
-use Rattle.sheet.specs.declared.Layout.{Layout}
-use Rattle.sheet.specs.Inner.{Passed}
-use Rattle.sheet.specs.Sheet.{line_count, tide_count}
+use Rattle.arguments.specs.declared.Phases.{Phases}
+use Rattle.sheet.specs.Sheet.{tide_count}
 use Rattle.wave.specs.Wave.{sin, cos}
 use Rattle.whole.specs.Sum.{weight_to}
 use Rattle.tides.specs.declared.RowSums.{RowSums}
+use Rattle.tides.specs.declared.Factor.{Factor}
 use Rattle.tides.specs.Tides.{line_phase, line_sum, factor, fcos, fsin}
 
 -- ---- waves: each is raised by 2^30, which makes it unsigned
@@ -31,35 +30,35 @@ pub record Bounded (n : ℕ) (l : List ℕ) : Type 0 where
 abbrev pub total : List ℕ → ℕ → ℕ
 total l n = weight_to (λ f. pos (get_or l f 0)) n
 
--- a sheet that passed, its layout, and raised waves of its lines
-pub record WithWaves (s : List ℕ) (l : Layout) (C S : List ℕ) : Type 0 where
-  pub passed : Passed s l
-  pub cosines : Bounded (line_count s) C
-  pub sines : Bounded (line_count s) S
-
 -- both sums of tide k
 pub record Summed (s : List ℕ) (k : ℕ) (C S : List ℕ) (r : RowSums) : Type 0 where
   pub cosines : r.cosines ≡ line_sum s (lowered C) k
   pub sines : r.sines ≡ line_sum s (lowered S) k
 
 -- ---- factors
--- the numbers of a list
-abbrev pub listed : List ℤ → ℕ → ℤ
-listed l i = get_or l i (pos 0)
+-- past the end of a list stands none
+abbrev none : Factor
+none = record { cosine = pos 0; sine = pos 0 }
 
--- the first n of a list are w 0 .. w (n - 1)
-pub record Lists (w : ℕ → ℤ) (n : ℕ) (l : List ℤ) : Type 0 where
-  pub each : (i : ℕ) → i < n → listed l i ≡ w i
+abbrev pub cosine_of : List Factor → ℕ → ℤ
+cosine_of l k = (get_or l k none).cosine
 
--- each of the first n numbers of a list is at most 2^e
-pub record Sized (e n : ℕ) (l : List ℤ) : Type 0 where
-  pub each : (i : ℕ) → i < n → nat_abs (listed l i) ≤ 2 ^ e
+abbrev pub sine_of : List Factor → ℕ → ℤ
+sine_of l k = (get_or l k none).sine
+
+-- the first n of v are w 0 .. w (n - 1)
+pub record Lists (w : ℕ → ℤ) (n : ℕ) (v : ℕ → ℤ) : Type 0 where
+  pub each : (i : ℕ) → i < n → v i ≡ w i
+
+-- each of the first n of v is at most 2^e
+pub record Sized (e n : ℕ) (v : ℕ → ℤ) : Type 0 where
+  pub each : (i : ℕ) → i < n → nat_abs (v i) ≤ 2 ^ e
 
 -- the factors of all tides, from raised waves, and from the phases
-pub record Rowed (s : List ℕ) (C S : List ℕ) (F G : List ℤ) : Type 0 where
-  pub cosines : Lists (factor s (lowered C)) (tide_count s) F
-  pub sines : Lists (factor s (lowered S)) (tide_count s) G
+pub record Rowed (s : List ℕ) (C S : List ℕ) (F : List Factor) : Type 0 where
+  pub cosines : Lists (factor s (lowered C)) (tide_count s) (cosine_of F)
+  pub sines : Lists (factor s (lowered S)) (tide_count s) (sine_of F)
 
-pub record Factored (s : List ℕ) (phases : Phases) (F G : List ℤ) : Type 0 where
-  pub cosines : Lists (fcos s phases) (tide_count s) F
-  pub sines : Lists (fsin s phases) (tide_count s) G
+pub record Factored (s : List ℕ) (phases : Phases) (F : List Factor) : Type 0 where
+  pub cosines : Lists (fcos s phases) (tide_count s) (cosine_of F)
+  pub sines : Lists (fsin s phases) (tide_count s) (sine_of F)

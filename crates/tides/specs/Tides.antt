@@ -1,6 +1,6 @@
 -- Document 01, "Model sheet and ocean tide": the factors of each tide.
 use Rattle.std.specs.Prelude.{List, ℕ, ◌^◌, ℤ, ◌*ℤ◌}
-use Rattle.arguments.specs.Phase.{Phases}
+use Rattle.arguments.specs.declared.Phases.{Phases}
 use Rattle.arguments.specs.Phase.{phase}
 use Rattle.sheet.specs.Sheet.{line_count, multipliers, admittance}
 use Rattle.wave.specs.Wave.{sin, cos}

@@ -96,9 +96,10 @@ module _ (t : ℕ) (ht : t < 2 ^ 32) {a x y s c : ℕ}
     unfolding eighth_cosine
     cosine_is = cc
 
-    pub in_eighth : {e : ℕ} → t / 2 ^ 29 ≡ e → {u u' v v' : ℤ} → (u ≡ u') × (v ≡ v')
-        → u' ≡ sine_in e s c → v' ≡ sine_in ((e + 2) % 8) s c → (u ≡ sin t) × (v ≡ cos t)
-    in_eighth k given p q = (
-      given.0 ∙ p ∙ rw (sine_is, cosine_is, ha, ← k) (sym (sin_in t)),
-      given.1 ∙ q ∙ rw (sine_is, cosine_is, ha, ← k) (sym (cos_in t ht)),
+    -- where the code has u and v in eighth e, they are the sine and the cosine
+    pub in_eighth : {e : ℕ} → t / 2 ^ 29 ≡ e → {u v : ℤ} {p : ℤ × ℤ} → p ≡ (u, v)
+        → u ≡ sine_in e s c → v ≡ sine_in ((e + 2) % 8) s c → (p.0 ≡ sin t) × (p.1 ≡ cos t)
+    in_eighth k {u} {v} e f g = (
+      ap (λ (p : ℤ × ℤ). p.0) e ∙ f ∙ rw (sine_is, cosine_is, ha, ← k) (sym (sin_in t)),
+      ap (λ (p : ℤ × ℤ). p.1) e ∙ g ∙ rw (sine_is, cosine_is, ha, ← k) (sym (cos_in t ht)),
     )

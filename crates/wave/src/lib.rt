@@ -2,14 +2,24 @@
 
 #![tactic(auto)]
 
-ghost use Rattle.std.specs.Prelude.{◌≡◌, ◌+◌, ◌*◌, ◌/◌, ◌^◌, ◌≤◌};
+ghost use Rattle.std.specs.Prelude.{◌≡◌, ◌+◌, ◌*◌, ◌/◌, ◌^◌, ◌≤◌, slice_index, EachIndex};
 ghost use Rattle.wave.specs.Wave.{angle, square, step, steps, sine_divisors, cosine_divisors, sin, cos};
 
 // An eighth of a turn, 2^29.
 const EIGHTH: u32 = 536870912;
 
+// 1 and a half in units of 2^-32, in which the angle and its square are.
+const ONE: u64 = 4294967296;
+
+const HALF: u64 = 2147483648;
+
+// What the steps of the sine and of the cosine divide by, one after the other.
+const SINE_DIVISORS: [u64; 5] = [110, 72, 42, 20, 6];
+
+const COSINE_DIVISORS: [u64; 6] = [132, 90, 56, 30, 12, 2];
+
 // The sine and the cosine of one phase.
-#[derive(Clone, Copy)]
+#[derive(Clone, Copy, Debug, PartialEq, Eq)]
 pub struct Wave {
     pub sine: i64,
     pub cosine: i64,
@@ -28,7 +38,7 @@ fn square_of(x: u64) -> u64
     requires { x ≤ 7 * 2 ^ 29 }
     ensures { (result ≡ square x) × (result ≤ 7 * 2 ^ 29) }
 {
-    (x * x + 2147483648) / 4294967296
+    (x * x + HALF) / ONE
 }
 
 // h, one step on.
@@ -36,7 +46,20 @@ fn step_of(y: u64, h: u64, d: u64) -> u64
     requires { (y ≤ 7 * 2 ^ 29) × (h ≤ 2 ^ 32) × (1 ≤ d) × (d ≤ 132) }
     ensures { (result ≡ step y h d) × (result ≤ 2 ^ 32) }
 {
-    4294967296 - (y * h + 2147483648 * d) / (4294967296 * d)
+    ONE - (y * h + HALF * d) / (ONE * d)
+}
+
+// h, from 1 on, after a step for each divisor.
+fn steps_of(y: u64, divisors: &[u64]) -> u64
+    requires small { y ≤ 7 * 2 ^ 29 }
+    requires divisors { EachIndex divisors.now (λ k. (1 ≤ slice_index divisors.now k) × (slice_index divisors.now k ≤ 132)) }
+    ensures { (result ≡ steps y (2 ^ 32) divisors.now) × (result ≤ 2 ^ 32) }
+{
+    let mut h = ONE;
+    for d in divisors {
+        h = step_of(y, h, *d);
+    }
+    h
 }
 
 // S(a), from the angle's x and y.
@@ -44,12 +67,7 @@ fn eighth_sine_of(x: u64, y: u64) -> u32
     requires { (x ≤ 7 * 2 ^ 29) × (y ≤ 7 * 2 ^ 29) }
     ensures { (result ≡ ((x * steps y (2 ^ 32) sine_divisors + 2 ^ 31) / 2 ^ 32 + 2) / 4) × (result ≤ 2 ^ 30) }
 {
-    let h = step_of(y, 4294967296, 110);
-    let h = step_of(y, h, 72);
-    let h = step_of(y, h, 42);
-    let h = step_of(y, h, 20);
-    let h = step_of(y, h, 6);
-    let g = (x * h + 2147483648) / 4294967296;
+    let g = (x * steps_of(y, &SINE_DIVISORS) + HALF) / ONE;
     ((g + 2) / 4) as u32
 }
 
@@ -58,20 +76,7 @@ fn eighth_cosine_of(y: u64) -> u32
     requires { y ≤ 7 * 2 ^ 29 }
     ensures { (result ≡ (steps y (2 ^ 32) cosine_divisors + 2) / 4) × (result ≤ 2 ^ 30) }
 {
-    let h = step_of(y, 4294967296, 132);
-    let h = step_of(y, h, 90);
-    let h = step_of(y, h, 56);
-    let h = step_of(y, h, 30);
-    let h = step_of(y, h, 12);
-    let h = step_of(y, h, 2);
-    ((h + 2) / 4) as u32
-}
-
-// A sine with its cosine.
-fn sine_cosine(sine: i64, cosine: i64) -> Wave
-    ensures { (result.sine ≡ sine) × (result.cosine ≡ cosine) }
-{
-    Wave { sine, cosine }
+    ((steps_of(y, &COSINE_DIVISORS) + 2) / 4) as u32
 }
 
 // The sine and the cosine of a phase, laid out as 01 has them: the eighth e and the rest b, the fold, S(a) and C(a), and what each eighth makes of them.
@@ -86,14 +91,15 @@ pub fn wave_of(phase: u32) -> Wave
     let y = square_of(x);
     let s = eighth_sine_of(x, y) as i64;
     let c = eighth_cosine_of(y) as i64;
-    match e {
-        0 => sine_cosine(s, c),
-        1 => sine_cosine(c, s),
-        2 => sine_cosine(c, -s),
-        3 => sine_cosine(s, -c),
-        4 => sine_cosine(-s, -c),
-        5 => sine_cosine(-c, -s),
-        6 => sine_cosine(-c, s),
-        7.. => sine_cosine(-s, c),
-    }
+    let (sine, cosine) = match e {
+        0 => (s, c),
+        1 => (c, s),
+        2 => (c, -s),
+        3 => (s, -c),
+        4 => (-s, -c),
+        5 => (-c, -s),
+        6 => (-c, s),
+        7.. => (-s, c),
+    };
+    Wave { sine, cosine }
 }

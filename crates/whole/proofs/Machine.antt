@@ -1,22 +1,15 @@
--- What the machine's tests of signed numbers say in parts, and that its operations fit.
-use mathlib.Core.Path.{◌≡◌, refl, sym, subst, ◌∙◌}
-use mathlib.Core.Bool.{Bool, true, false, not, ◌&&◌}
+-- What the machine's operations on signed numbers give, and that they fit.
+use mathlib.Core.Path.{◌≡◌, refl, sym, ◌∙◌}
+use mathlib.Core.Bool.{Bool, true, false, ◌&&◌}
 use Prim.Native.Nat.{ℕ, suc, ◌+◌, ◌^◌, ◌≤◌, ◌<◌}
 use native.Mathlib.Omega.{arith}
 use lib.Dec.{T, leb, leb-suc-suc}
 use lib.IntN.{ℤ, pos, negsuc, neg_ℤ, nat_abs, ◌+ℤ◌, ◌-ℤ◌, +ℤ_idl}
-use lib.Signed.{lt_z, le_z, lt_z_yes, lt_z_no, non_neg, mag}
+use lib.Signed.{le_z, non_neg, mag}
 use mir.Syntax.{Width, w64}
 use mir.Val.{SFits, to_z, of_z, hbits}
 use mir.Facts.{to_z-of_z}
-use Rattle.whole.proofs.Parts.{up, dn, below→, less→, fits_abs, abs_sum, abs, abs_le, difference}
-
-module _ (w : Width) {x y : ℤ} (fx : SFits w x) (fy : SFits w y) where
-  pub lt_yes : lt_z (to_z w (of_z w x)) (to_z w (of_z w y)) ≡ true → up x + dn y < up y + dn x
-  lt_yes e = less→ x y (lt_z_yes (subst T (sym (rw (to_z-of_z fx, to_z-of_z fy) at e)) tt))
-
-  pub lt_no : lt_z (to_z w (of_z w x)) (to_z w (of_z w y)) ≡ false → up y + dn x ≤ up x + dn y
-  lt_no e = below→ y x (lt_z_no (subst (λ (b : Bool). T (not b)) (sym (rw (to_z-of_z fx, to_z-of_z fy) at e)) tt))
+use Rattle.whole.proofs.Parts.{up, dn, fits_abs, abs_sum, abs, abs_le, difference}
 
 pub positive : (x : ℤ) → dn x ≤ up x → T (non_neg x)
 positive (pos n) h = tt

@@ -5,18 +5,12 @@
 ghost use Rattle.std.specs.Prelude.{◌≡◌, ◌+◌, ◌^◌, ◌≤◌, ◌<◌, nat_abs, length};
 ghost use Rattle.words.specs.Words.{byte_at, half_at, word_at, twos_complement};
 
-pub fn wide(b: u8) -> u32
-    ensures { (result ≡ b) × (result < 256) }
-{
-    b as u32
-}
-
 // The byte at a place, or 0 past the end.
 fn byte_at(bytes: &[u8], at: usize) -> usize
     ensures { (result ≡ byte_at bytes.now at) × (result < 256) }
 {
     if at < bytes.len() {
-        bytes[at] as usize
+        usize::from(bytes[at])
     } else {
         0
     }
@@ -34,32 +28,22 @@ pub fn word_at(bytes: &[u8], at: usize) -> u32
     requires { at + 4 ≤ length bytes.now }
     ensures { result ≡ word_at bytes.now at }
 {
-    wide(bytes[at])
-        + 256 * wide(bytes[at + 1])
-        + 65536 * wide(bytes[at + 2])
-        + 16777216 * wide(bytes[at + 3])
+    u32::from_le_bytes([bytes[at], bytes[at + 1], bytes[at + 2], bytes[at + 3]])
 }
 
-// Half the range added, 32 bits kept, and it taken off again: one load and no branch once compiled.
 pub fn signed_at(bytes: &[u8], at: usize) -> i64
     requires { at + 4 ≤ length bytes.now }
     ensures { (result ≡ twos_complement (2 ^ 31) (word_at bytes.now at)) × (nat_abs result ≤ 2 ^ 31) }
 {
-    let raised = (word_at(bytes, at) as u64 + 2147483648) % 4294967296;
-    (raised as i64) - 2147483648
+    i64::from(word_at(bytes, at).cast_signed())
 }
 
-// The absolute value of the signed word, without a branch once compiled.
+// The absolute value of the signed word.
 pub fn size_at(bytes: &[u8], at: usize) -> u32
     requires { at + 4 ≤ length bytes.now }
     ensures { (result ≡ nat_abs (twos_complement (2 ^ 31) (word_at bytes.now at))) × (result ≤ 2 ^ 31) }
 {
-    let word = word_at(bytes, at);
-    if word < 2147483648 {
-        word
-    } else {
-        (4294967295 - word) + 1
-    }
+    word_at(bytes, at).cast_signed().unsigned_abs()
 }
 
 // A signed byte, extended like a signed word.
@@ -67,6 +51,5 @@ pub fn signed_byte_at(bytes: &[u8], at: usize) -> i32
     requires { at < length bytes.now }
     ensures { result ≡ twos_complement (2 ^ 7) (byte_at bytes.now at) }
 {
-    let raised = (wide(bytes[at]) + 128) % 256;
-    (raised as i32) - 128
+    i32::from(bytes[at].cast_signed())
 }

@@ -1,30 +1,29 @@
 -- A sheet that passes by itself is asked for its degrees; any other keeps its refusal.
-use mathlib.Core.Bool.{cond}
-use mathlib.Core.Path.{◌≡◌, sym, ap, ◌∙◌}
-use Rattle.refusals.specs.Numbers.{answer_number}
+use mathlib.Core.Bool.{true, false}
+use mathlib.Core.Path.{◌≡◌, refl, sym, ◌∙◌}
+use Rattle.std.proofs.lemmas.Result.{err_from_is_err_and}
 use Rattle.refusals.proofs.Numbers.{refusal_not_zero}
-use Rattle.sheet.specs.Accepted.{reached, own_refusal, sheet_refusal}
 use Rattle.refusals.proofs.Outcomes.{first_passed, first_kept}
+use Rattle.sheet.specs.Accepted.{reached, sheet_refusal}
 use Rattle.accept.proofs.tested.Goals as goal
-use Rattle.accept.proofs.tested.Goals.{In-Accepted}
 
--- where the sheet passed by itself
-module _ (c : In-Accepted) where
-  passed : own_refusal c.args.sheet.now ≡ 0
-  passed = sym c.tested_alone.ensures ∙ ap answer_number c.in-Accepted.is
-
-  past : sheet_refusal c.args.sheet.now c.args.n ≡ cond (reached c.args.sheet.now c.args.n) 0 9
-  unfolding sheet_refusal
-  past = first_passed _ _ passed
-
-pub returns-then-is_reached : goal.returns-then-is_reached
-returns-then-is_reached c = rw (past (goal.at.returns-then-is_reached c).In-Accepted, sym c.is_reached.ensures ∙ c.if-is_reached.true)
-
-pub returns-else-is_reached : goal.returns-else-is_reached
-returns-else-is_reached c = rw (past (goal.at.returns-else-is_reached c).In-Accepted, sym c.is_reached.ensures ∙ c.if-is_reached.false)
-
-pub returns-in-Refused : goal.returns-in-Refused
+pub returns-in_err-accepted : goal.returns-in_err-accepted
 unfolding sheet_refusal
-returns-in-Refused c =
-    let e = sym (ap answer_number c.in-Refused.is) ∙ c.tested_alone.ensures in
-    e ∙ sym (first_kept _ _ (λ z. refusal_not_zero c.in-Refused.why (e ∙ z)))
+returns-in_err-accepted c =
+    let p = err_from_is_err_and c.from_residual.result c.from_residual.ensures.1 in
+    let e = c.in_err-accepted.ensures in
+    rw (p.1, p.2) (first_kept _ _ (λ z. refusal_not_zero _ (sym e ∙ z)) ∙ e)
+
+pub returns-then-not-is_reached : goal.returns-then-not-is_reached
+unfolding sheet_refusal
+returns-then-not-is_reached c =
+    let e = c.in_ok-accepted.ensures in
+    let r : reached c.args.bytes.now c.args.n ≡ false = rw e.0 at (sym c.is_reached.ensures ∙ c.if-not-is_reached.true) in
+    first_passed _ _ e.1 ∙ rw r refl
+
+pub returns : goal.returns
+unfolding sheet_refusal
+returns c =
+    let e = c.in_ok-accepted.ensures in
+    let r : reached c.args.bytes.now c.args.n ≡ true = rw e.0 at (sym c.is_reached.ensures ∙ c.if-not-is_reached.false) in
+    (e.0, first_passed _ _ e.1 ∙ rw r refl)

@@ -1,21 +1,27 @@
 -- Each field is its digit's.
-use mathlib.Core.Path.{refl, ◌∙◌}
-use Prim.Native.Nat.{◌/◌, ◌%◌}
-use native.Mathlib.Omega.{arith}
-use mir.Syntax.{w32}
+use Rattle.std.proofs.Common.{ℕ, ℤ, pos, ◌-ℤ◌, ap, ◌∙◌, arith, w32}
 use mir.Facts.{to_z_pos}
 use Rattle.whole.proofs.Machine.{back}
-use Rattle.doodson.specs.Doodson.{multipliers_in}
+use Rattle.doodson.specs.Doodson.{multipliers_written}
 use Rattle.doodson.proofs.multipliers_in.Goals as goal
 
+abbrev less : ℕ → ℤ
+less d = pos d -ℤ pos 5
+
 pub returns : goal.returns
-unfolding multipliers_in
-returns c =
-    let number = c.args.number in
-    let m1 = c.multiplier_of in
-    let m2 = c.multiplier_of-2 in
-    let m3 = c.multiplier_of-3 in
-    let m4 = c.multiplier_of-4 in
-    let m5 = c.multiplier_of-5 in
-    rw (to_z_pos w32 {n = number / 100000 % 10} (omega arith), back w32 m1.result m1.type_inv ∙ m1.ensures, back w32 m2.result m2.type_inv ∙ m2.ensures, back w32 m3.result m3.type_inv ∙ m3.ensures, back w32 m4.result m4.type_inv ∙ m4.ensures, back w32 m5.result m5.type_inv ∙ m5.ensures)
-    refl
+unfolding multipliers_written
+returns g c =
+    let tau = c.digit in
+    let s = c.multiplier_of in
+    let h = c.multiplier_of-2 in
+    let p = c.multiplier_of-3 in
+    let np = c.multiplier_of-4 in
+    let ps = c.multiplier_of-5 in
+    λ i. record {
+      tau = (to_z_pos w32 (omega (arith, tau.ensures.1)) ∙ ap pos tau.ensures.0) i;
+      s = (back w32 s.result s.type_inv ∙ s.ensures ∙ ap less c.digit-2.ensures.0) i;
+      h = (back w32 h.result h.type_inv ∙ h.ensures ∙ ap less c.digit-3.ensures.0) i;
+      p = (back w32 p.result p.type_inv ∙ p.ensures ∙ ap less c.digit-4.ensures.0) i;
+      np = (back w32 np.result np.type_inv ∙ np.ensures ∙ ap less c.digit-5.ensures.0) i;
+      ps = (back w32 ps.result ps.type_inv ∙ ps.ensures ∙ ap less c.digit-6.ensures.0) i;
+    }

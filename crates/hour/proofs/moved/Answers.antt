@@ -1,7 +1,7 @@
 -- The lines that have the argument are renewed at the phases moved.
 use mathlib.Core.Path.{◌≡◌, ap, ◌∙◌}
 use mir.Facts.{to_z-of_z}
-use Rattle.arguments.specs.Phase.{Phases}
+use Rattle.arguments.specs.declared.Phases.{Phases}
 use Rattle.arguments.specs.Phase.{moved_phases}
 use Rattle.wave.specs.Wave.{sin, cos}
 use Rattle.hour.specs.Hour.{has_argument, renewed, moved_hour}

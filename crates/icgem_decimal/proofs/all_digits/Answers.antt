@@ -1,16 +1,11 @@
--- The loop keeps that the whole text is of digits where what is not yet passed is.
-use Rattle.std.proofs.Common.{true, false, sym, ◌∙◌, arith, rules}
-use Rattle.icgem_decimal.proofs.Digits.{digits_next, digits_end}
-use Rattle.std.proofs.Common.{rules}
+-- Each byte is a digit.
+use Rattle.std.proofs.Common.{◌∙◌, rules}
+use borrow.Author.Tests.{tests}
+use Rattle.std.proofs.lemmas.Iterator.{YieldsList-from_slice}
+use Rattle.std.proofs.lemmas.Iterator.Search.{all_from_yields_List}
+use Rattle.icgem_decimal.specs.Decimal.{is_digit}
+use Rattle.icgem_decimal.proofs.Digits.{all_listed}
 use Rattle.icgem_decimal.proofs.all_digits.Goals as goal
 
-pub loop-i-preserved : goal.loop-i-preserved
-loop-i-preserved c =
-    (search rules, c.loop-i.invariant.1 ∙ digits_next c.args.text.now c.loop-i.i true (omega arith) (sym c.if-is_digit.true ∙ c.is_digit.ensures))
-
-pub returns-else-is_digit : goal.returns-else-is_digit
-returns-else-is_digit c =
-    sym (c.loop-i.invariant.1 ∙ digits_next c.args.text.now c.loop-i.i false (omega arith) (sym c.if-is_digit.false ∙ c.is_digit.ensures))
-
 pub returns : goal.returns
-returns c = sym (c.loop-i.invariant.1 ∙ digits_end _ _ c.loop-i-test.false c.loop-i.invariant.0)
+returns c = all_from_yields_List is_digit _ _ _ c.all.ensures.ran (YieldsList-from_slice c.args.text.now cc) (λ x b q k. search (rules, tests)) ∙ all_listed _

@@ -1,13 +1,16 @@
--- Each turn makes it ten times as much, and twenty turns are enough.
-use Rattle.std.proofs.Common.{◌≡◌, min, arith}
-use Rattle.icgem_decimal.proofs.Numbers.{raise_next, raise_all}
+-- Twenty turns are enough.
+use Rattle.std.proofs.Common.{◌≡◌, min, ap, ◌∙◌, arith, ◌*◌, ◌^◌, ℕ}
+use Rattle.icgem_decimal.proofs.Numbers.{raise_stops, raised_all, raise_next}
 use Rattle.icgem_decimal.proofs.raised.Goals as goal
 
-pub loop-i-preserved : goal.loop-i-preserved
-loop-i-preserved c = (omega arith, raise_next c.loop-i.i c.loop-i.invariant.1 c.next-t.ensures)
+pub returns-in_err-product : goal.returns-in_err-product
+returns-in_err-product c =
+    rw c.from_residual.ensures (raise_stops _ _ _ _ (omega (arith, c.min-end.ensures, c.loop-test.true)) c.loop.invariant.raised c.in_err-product.ensures)
+
+pub loop-preserved : goal.loop-preserved
+loop-preserved c = record { fits = omega (arith, c.in_ok-product.ensures); raised = raise_next _ _ _ _ c.loop.invariant.raised c.in_ok-product.ensures.1 }
 
 pub returns : goal.returns
 returns c =
-    let k = c.args.k in
-    let e : c.loop-i.i ≡ min k 20 = omega (arith, c.least-times.ensures) in
-    raise_all k (rw e at c.loop-i.invariant.1)
+    let e : c.loop.counter ≡ min c.args.k 20 = omega (arith, c.min-end.ensures, c.loop-test.false, c.loop.auto.counter-end) in
+    raised_all _ _ _ (c.loop.invariant.raised ∙ ap (λ (j : ℕ). c.args.n * 10 ^ j) e) c.loop.invariant.fits

@@ -1,12 +1,13 @@
 -- By the first byte.
+use Rattle.std.proofs.Common.{sym, ◌∙◌}
 use Rattle.icgem_decimal.proofs.Signs.{unsigned_none, unsigned_sign, unsigned_bare}
 use Rattle.icgem_decimal.proofs.without_sign.Goals as goal
 
-pub returns-then-text-eq0 : goal.returns-then-text-eq0
-returns-then-text-eq0 c = unsigned_none c.args.text.now c.if-text-eq0.true
+pub returns-in-len1-up : goal.returns-in-len1-up
+returns-in-len1-up c = unsigned_sign _ c.in-len1-up.len_at_least (sym c.is_sign.ensures ∙ c.if-is_sign.true)
 
-pub returns-then-b : goal.returns-then-b
-returns-then-b c = unsigned_sign c.args.text.now c.if-text-eq0.false c.if-b.true
+pub returns-in_default : goal.returns-in_default
+returns-in_default c = unsigned_none _ c.in_default.len_below
 
-pub returns-else-b : goal.returns-else-b
-returns-else-b c = unsigned_bare c.args.text.now c.if-text-eq0.false c.if-b.false
+pub returns-in_default-2 : goal.returns-in_default-2
+returns-in_default-2 c = unsigned_bare _ (sym c.is_sign.ensures ∙ c.if-is_sign.false)

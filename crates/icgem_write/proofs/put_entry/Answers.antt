@@ -1,12 +1,13 @@
 -- The keyword, the value at the end of the columns left, the line feed.
 use native.Mathlib.Omega.{arith}
-use Rattle.icgem_write.proofs.Lines.{entry_next, entry_room, entry_put}
+use Rattle.text.specs.Text.{ascii}
+use Rattle.text.proofs.Puts.{puts_then}
+use Rattle.icgem_write.specs.Written.{entry}
 use Rattle.icgem_write.proofs.put_entry.Goals as goal
 
-pub put_byte-requires : goal.put_byte-requires
-put_byte-requires c =
-    omega (arith, entry_next _ c.put_word-next.ensures c.put_word-next-2.ensures (omega arith), entry_room _ c.put_word-next.ensures c.put_word-next-2.ensures (omega arith))
-
 pub returns : goal.returns
-returns c =
-    entry_put _ c.put_word-next.ensures c.put_word-next-2.ensures (omega arith) c.put_byte.ensures
+unfolding entry ascii
+returns g c = record {
+  puts = puts_then (puts_then c.put_word.ensures c.put.ensures.put) c.put_byte.ensures;
+  next_at = omega (arith, c.put_word.ensures.put.next_is, c.put.ensures.filled, c.put_byte.ensures.put.next_is, c.requires.within);
+}

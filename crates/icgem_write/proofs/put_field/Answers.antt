@@ -1,8 +1,7 @@
--- The header, and the lines of all degrees.
-use Rattle.icgem_write.specs.Written.{file_text}
-use Rattle.icgem_write.proofs.Lines.{lines_then}
+-- A page that begins at the buffer's start.
+use Rattle.std.proofs.Common.{rules}
+use Rattle.icgem_write.proofs.Lines.{lines_from_start}
 use Rattle.icgem_write.proofs.put_field.Goals as goal
 
 pub returns : goal.returns
-unfolding file_text
-returns c = lines_then c.put_header-at.ensures c.put_degrees.ensures
+returns c = search (rules, lines_from_start)

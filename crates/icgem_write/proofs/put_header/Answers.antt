@@ -6,4 +6,4 @@ use Rattle.icgem_write.proofs.put_header.Goals as goal
 pub returns : goal.returns
 unfolding header
 returns c =
-    lines_then (lines_then (lines_then c.put_title-at.ensures c.put_measures-at.ensures) c.put_manner-at.ensures) c.put_closing.ensures
+    lines_then (lines_then (lines_then c.put_title.ensures c.put_measures.ensures) c.put_manner.ensures) c.put_closing.ensures

@@ -6,4 +6,4 @@ use Rattle.icgem_write.proofs.put_title.Goals as goal
 
 pub returns : goal.returns
 unfolding title_lines ascii
-returns c = lines_then c.put_entry-next.ensures c.put_entry.ensures
+returns c = lines_then c.put_entry.ensures c.put_entry-2.ensures

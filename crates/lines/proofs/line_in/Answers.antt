@@ -1,38 +1,43 @@
 -- Each case is the definition's.
-use mathlib.Core.Path.{◌≡◌, refl, ◌∙◌}
-use Prim.Native.Nat.{◌≤◌}
-use native.Mathlib.Omega.{arith}
-use lib.IntN.{ℤ, pos, nat_abs, ◌*ℤ◌}
-use mir.Syntax.{w64}
-use mir.Val.{to_z, of_z}
+use Rattle.std.proofs.Common.{◌≡◌, ◌≤◌, ℤ, pos, ◌*ℤ◌, nat_abs, ap, ◌∙◌, refl, arith, w64, to_z, of_z, to_z-of_z}
+use Rattle.bands.specs.declared.Band.{Band}
+use Rattle.bands.specs.declared.Line.{Line}
 use Rattle.bands.specs.Bands.{in_counts}
 use Rattle.bands.proofs.Counts.{counts_read}
+use Rattle.whole.proofs.Parts.{fits_abs}
 use Rattle.lines.specs.Lines.{in_model}
+use Rattle.lines.proofs.Table.{model_small}
 use Rattle.lines.proofs.line_in.Goals as goal
+use Rattle.lines.proofs.line_in.Goals.{in-Diurnal-Elastic, in-Diurnal-Anelastic, in-LongPeriod-Elastic, in-LongPeriod-Anelastic, in-Semidiurnal-default}
 
 -- a printed amplitude, as the code has it in counts
 read : (a : ℤ) → nat_abs a ≤ 4720 → to_z w64 (of_z w64 (to_z w64 (of_z w64 a) *ℤ pos 100)) ≡ in_counts a
 read a h = counts_read a (omega arith)
 
-pub returns-in-Elastic : goal.returns-in-Elastic
-unfolding in_model
-returns-in-Elastic c = c.line.ensures ∙ rw (c.in-Diurnal.is, c.in-Elastic.is, ← read c.args.first c.requires.0) refl
+stored : {x z : ℤ} → x ≡ z → nat_abs z ≤ 472000 → to_z w64 (of_z w64 x) ≡ z
+stored {x} {z} e h = rw e (to_z-of_z (fits_abs w64 z (omega arith)))
 
-pub returns-in-Anelastic : goal.returns-in-Anelastic
-unfolding in_model
-returns-in-Anelastic c =
-    c.line-in-Anelastic.ensures ∙ rw (c.in-Diurnal.is, c.in-Anelastic.is, ← read c.args.second c.requires.1) refl
+made : (m : Line) → (nat_abs m.ip ≤ 472000) × (nat_abs m.op ≤ 472000) → {band : Band} {p : ℤ × ℤ} → (band ≡ m.band) × (p ≡ (m.ip, m.op))
+    → ◌≡◌ {A = Line} (record { band = band; ip = to_z w64 (of_z w64 p.0); op = to_z w64 (of_z w64 p.1) }) m
+made m small e = λ i. record {
+  band = e.0 i;
+  ip = stored (ap (λ (q : ℤ × ℤ). q.0) e.1) small.0 i;
+  op = stored (ap (λ (q : ℤ × ℤ). q.1) e.1) small.1 i;
+}
 
-pub returns-in-Elastic-love : goal.returns-in-Elastic-love
+pub returns : goal.returns
 unfolding in_model
-returns-in-Elastic-love c = c.line-in-Elastic-love.ensures ∙ rw (c.in-LongPeriod.is, c.in-Elastic-love.is) refl
-
-pub returns-in-Anelastic-love : goal.returns-in-Anelastic-love
-unfolding in_model
-returns-in-Anelastic-love c =
-    c.line-in-Anelastic-love.ensures
-    ∙ rw (c.in-LongPeriod.is, c.in-Anelastic-love.is, ← read c.args.first c.requires.0, ← read c.args.second c.requires.1) refl
-
-pub returns-in-Semidiurnal : goal.returns-in-Semidiurnal
-unfolding in_model
-returns-in-Semidiurnal c = c.line-in-Semidiurnal.ensures ∙ rw (c.in-Semidiurnal.is, ← read c.args.first c.requires.0) refl
+returns c =
+    let a = c.args in
+    let m : Line = in_model a.band a.love a.first a.second in
+    let first = read a.first c.requires.0 in
+    let second = read a.second c.requires.1 in
+    let same : (a.band ≡ m.band) × (c.match-band.ip ≡ (m.ip, m.op)) =
+    elim c.match-band.branch [
+      | in-Diurnal-Elastic w ↦ rw (w.in-Diurnal-Elastic.is-0, w.in-Diurnal-Elastic.is-1) (refl, w.ip-is ∙ (λ i. (first i, pos 0)))
+      | in-Diurnal-Anelastic w ↦ rw (w.in-Diurnal-Anelastic.is-0, w.in-Diurnal-Anelastic.is-1) (refl, w.ip-is ∙ (λ i. (second i, pos 0)))
+      | in-LongPeriod-Elastic w ↦ rw (w.in-LongPeriod-Elastic.is-0, w.in-LongPeriod-Elastic.is-1) (refl, w.ip-is)
+      | in-LongPeriod-Anelastic w ↦ rw (w.in-LongPeriod-Anelastic.is-0, w.in-LongPeriod-Anelastic.is-1) (refl, w.ip-is ∙ (λ i. (first i, second i)))
+      | in-Semidiurnal-default w ↦ rw w.in-Semidiurnal-default.is-0 (refl, w.ip-is ∙ (λ i. (first i, pos 0)))
+    ] in
+    made m (model_small a.band a.love a.first a.second c.requires.0 c.requires.1) same

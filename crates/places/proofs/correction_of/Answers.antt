@@ -7,36 +7,33 @@ use mir.Syntax.{w64}
 use mir.Val.{to_z, of_z}
 use Rattle.whole.specs.Nearest.{nearest}
 use Rattle.sheet.specs.Sheet.{degree}
-use Rattle.sheet.proofs.Acceptance.{accepted, whole_of}
+use Rattle.sheet.proofs.Acceptance.{accepted}
 use Rattle.sheet.proofs.Signs.{told}
-use Rattle.tides.specs.Inner.{listed}
+use Rattle.tides.specs.Inner.{cosine_of, sine_of}
 use Rattle.tides.proofs.Sizes.{read_back}
 use Rattle.places.specs.Places.{place_sum, skipped, unless_skipped, correction}
 use Rattle.places.proofs.Sizes.{place_size}
 use Rattle.places.proofs.correction_of.Goals as goal
 use Rattle.places.proofs.correction_of.Goals.{After-is_skipped, After-place_sums-sums}
 
-skip-told : (c : After-is_skipped) → c.is_skipped.result ≡ skipped c.args.frame (degree c.args.sheet.now c.args.j)
+skip-told : (c : After-is_skipped) → c.is_skipped.result ≡ skipped c.args.frame (degree c.args.tides.now.accepted.sheet.bytes.now c.args.j)
 skip-told c = c.is_skipped.ensures ∙ ap (skipped c.args.frame) c.degree_at.ensures
 
 -- once both sums are known
 module _ (c : After-place_sums-sums) where
   abbrev sum : ℕ → ℕ → ℤ
-  sum p q = place_sum c.args.sheet.now (listed c.args.fcos.now) (listed c.args.fsin.now) p q c.args.j
+  sum p q = place_sum c.args.tides.now.accepted.sheet.bytes.now (cosine_of c.args.tides.now.factors) (sine_of c.args.tides.now.factors) p q c.args.j
 
   sum-small : (p q : ℕ) → p < 4 → q < 4 → nat_abs (sum p q) ≤ 2 ^ 62
   sum-small p q gp gq =
-      place_size (accepted _ c.requires.0.passed.own) c.args.j c.requires.1 (listed c.args.fcos.now) (listed c.args.fsin.now)
-      c.requires.0.cosines.each c.requires.0.sines.each p q gp gq
+      place_size (accepted _ c.args.tides.now.accepted.own) c.args.j c.requires (cosine_of c.args.tides.now.factors) (sine_of c.args.tides.now.factors)
+      c.args.tides.now.cosines.each c.args.tides.now.sines.each p q gp gq
 
   c_read : to_z w64 (of_z w64 c.place_sums-sums.result.c) ≡ sum 0 2
   c_read = read_back c.place_sums-sums.ensures.sum_c (omega (arith, sum-small 0 2 (omega arith) (omega arith)))
 
   s_read : to_z w64 (of_z w64 c.place_sums-sums.result.s) ≡ sum 1 3
   s_read = read_back c.place_sums-sums.ensures.sum_s (omega (arith, sum-small 1 3 (omega arith) (omega arith)))
-
-pub degree_at-requires : goal.degree_at-requires
-degree_at-requires c = (whole_of c.requires.0.passed, c.requires.1)
 
 pub returns-then-is_skipped : goal.returns-then-is_skipped
 unfolding correction unless_skipped

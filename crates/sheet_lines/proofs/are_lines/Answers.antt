@@ -24,18 +24,16 @@ by_lines s n =
     (λ q g. ap (λ (at : ℕ). is_multiplier (twos_complement (2 ^ 7) (byte_at s at))) (omega arith)))
 
 pub loop-i-init : goal.loop-i-init
-loop-i-init c = (omega arith, all_none _)
+loop-i-init c = all_none _
 
 pub loop-i-preserved : goal.loop-i-preserved
 unfolding byte_valid
 loop-i-preserved c =
-    let l = c.loop-i in
     let b = c.signed_byte_at in
-    let t = c.is_multiplier-good.ensures ∙ ap is_multiplier (told w32 b.type_inv b.ensures) in
-    (omega arith, all_more (byte_valid c.args.sheet.now) l.i l.invariant.1 t)
+    all_more (byte_valid c.args.sheet.now.bytes.now) c.loop-i.i c.loop-i.invariant (c.is_multiplier-good.ensures ∙ ap is_multiplier (told w32 b.type_inv b.ensures))
 
 pub returns : goal.returns
 returns c =
-    let s = c.args.sheet.now in
+    let s = c.args.sheet.now.bytes.now in
     let e : c.loop-i.i ≡ 6 * line_count s = omega arith in
-    c.loop-i.invariant.1 ∙ ap (all_to (byte_valid s)) e ∙ by_lines s (line_count s)
+    c.loop-i.invariant ∙ ap (all_to (byte_valid s)) e ∙ by_lines s (line_count s)

@@ -2,7 +2,7 @@
 use mathlib.Core.Path.{◌≡◌}
 use mathlib.Core.Bool.{Bool}
 use mathlib.Core.List.{List}
-use Prim.Native.Nat.{ℕ, ◌+◌, ◌-◌, ◌^◌, ◌≤◌}
+use Prim.Native.Nat.{ℕ, ◌+◌, ◌^◌}
 use Rattle.limits.specs.Limits.{is_multiplier}
 use Rattle.words.specs.Words.{byte_at, twos_complement}
 use Rattle.whole.specs.Sum.{all_to}
@@ -13,7 +13,4 @@ unfoldable pub byte_valid : List ℕ → ℕ → Bool
 byte_valid s i = is_multiplier (twos_complement (2 ^ 7) (byte_at s (2 + i)))
 
 abbrev pub invariant-loop-i : goal.invariant-loop-i
-invariant-loop-i l = (l.i ≤ l.multipliers) × (l.good ≡ all_to (byte_valid l.sheet) l.i)
-
-abbrev pub decreases-loop-i : goal.decreases-loop-i
-decreases-loop-i l = l.multipliers - l.i
+invariant-loop-i l = l.good ≡ all_to (byte_valid l.sheet.bytes.now) l.i

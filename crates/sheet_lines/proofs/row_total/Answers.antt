@@ -9,12 +9,12 @@ use Rattle.sheet.specs.Sheet.{admittance}
 use Rattle.sheet_lines.proofs.row_total.Goals as goal
 
 pub loop-f-init : goal.loop-f-init
-loop-f-init c = (omega arith, weight_none _, omega arith)
+loop-f-init c = (weight_none _, omega arith)
 
 pub loop-f-preserved : goal.loop-f-preserved
 unfolding admittance
 loop-f-preserved c =
     let l = c.loop-f in
-    let s = c.args in
-    let e = c.size_at.ensures.0 ∙ ap (λ (at : ℕ). nat_abs (twos_complement (2 ^ 31) (word_at s.sheet.now (at + 4 * l.f)))) c.row_start-at.ensures in
-    (omega arith, weight_more (admittance s.sheet.now s.k) l.f l.invariant.1 e, omega arith)
+    let s = c.args.sheet.now.bytes.now in
+    let e = c.from-sum.ensures ∙ c.size_at.ensures.0 ∙ ap (λ (at : ℕ). nat_abs (twos_complement (2 ^ 31) (word_at s (at + 4 * l.f)))) c.row_start-at.ensures in
+    (weight_more (admittance s c.args.k) l.f l.invariant.0 e, omega arith)

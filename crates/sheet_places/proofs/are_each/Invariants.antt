@@ -1,11 +1,8 @@
 -- One flag takes every word in turn.
-use Rattle.std.proofs.Common.{◌≡◌, ◌-◌, ◌≤◌}
+use Rattle.std.proofs.Common.{◌≡◌}
 use Rattle.whole.specs.Sum.{all_to}
 use Rattle.sheet_places.specs.Inner.{valid_at}
 use Rattle.sheet_places.proofs.are_each.Given as goal
 
 abbrev pub invariant-loop-i : goal.invariant-loop-i
-invariant-loop-i l = (l.i ≤ l.count) × (l.good ≡ all_to (valid_at l.sheet l.at) l.i)
-
-abbrev pub decreases-loop-i : goal.decreases-loop-i
-decreases-loop-i l = l.count - l.i
+invariant-loop-i l = l.good ≡ all_to (valid_at l.bytes l.at) l.i

@@ -1,14 +1,10 @@
 -- Each turn compares one more line's key with those after it.
 use mathlib.Core.Bool.{not}
 use mathlib.Core.Path.{◌≡◌}
-use Prim.Native.Nat.{◌-◌, ◌≤◌}
 use Rattle.whole.specs.Sum.{all_to}
 use Rattle.sheet_twins.specs.Inner.{none_after}
 use Rattle.sheet_twins.proofs.Pairs.{eights}
 use Rattle.sheet_twins.proofs.are_untwinned.Given as goal
 
 abbrev pub invariant-loop-f : goal.invariant-loop-f
-invariant-loop-f l = (l.f ≤ l.lines) × (not l.found ≡ all_to (λ j. none_after l.keys j (eights l.lines j)) l.f)
-
-abbrev pub decreases-loop-f : goal.decreases-loop-f
-decreases-loop-f l = l.lines - l.f
+invariant-loop-f l = not l.found ≡ all_to (λ j. none_after l.keys j (eights l.lines j)) l.f

@@ -1,12 +1,8 @@
 -- Each turn writes one more digit; five of them and one more stay below 27^6.
 use mathlib.Core.Path.{◌≡◌}
-use Prim.Native.Nat.{◌-◌, ◌≤◌}
 use Rattle.sheet.specs.Sheet.{multiplier}
 use Rattle.sheet_twins.specs.Inner.{written}
 use Rattle.sheet_twins.proofs.key_at.Given as goal
 
 abbrev pub invariant-loop-i : goal.invariant-loop-i
-invariant-loop-i l = (l.i ≤ 6) × (l.key ≡ written (multiplier l.sheet l.f) l.i)
-
-abbrev pub decreases-loop-i : goal.decreases-loop-i
-decreases-loop-i l = 6 - l.i
+invariant-loop-i l = l.key ≡ written (multiplier l.sheet.bytes.now l.f) l.i

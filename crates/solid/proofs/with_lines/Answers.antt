@@ -12,6 +12,6 @@ returns c =
     let d = c.args.two in
     let s = c.requires.lines in
     λ i. record {
-      c = (c.with_three-c.ensures ∙ λ j. plus c.args.one.c (read_c20 d s j ∷ read-c21 d s j ∷ read_c22 d s j ∷ [])) i;
-      s = (c.with_three-s.ensures ∙ λ j. plus c.args.one.s (pos 0 ∷ read-s21 d s j ∷ read_s22 d s j ∷ [])) i;
+      c = (c.with_three.ensures ∙ λ j. plus c.args.one.c (read_c20 d s j ∷ read-c21 d s j ∷ read_c22 d s j ∷ [])) i;
+      s = (c.with_three-2.ensures ∙ λ j. plus c.args.one.s (pos 0 ∷ read-s21 d s j ∷ read_s22 d s j ∷ [])) i;
     }

@@ -9,9 +9,9 @@ use Rattle.step_one.proofs.counts_c.Goals as goal
 pub nearest_count-requires : goal.nearest_count-requires
 nearest_count-requires c =
     let ten : length c.args.xs ≡ 10 = search rules in
-    each c.args.xs c.requires c.loop-k.k (omega arith)
+    each c.args.xs c.requires c.loop-i.i (omega arith)
 
 pub returns : goal.returns
 returns c =
     let ten : length c.args.xs ≡ 10 = search rules in
-    counted c.args.xs c.loop-k.out (c.loop-k.invariant.1 ∙ sym ten) (λ j l. c.loop-k.invariant.2 j (omega arith))
+    counted c.args.xs c.loop-i.out (c.loop-i.invariant.0 ∙ sym ten) (λ j l. c.loop-i.invariant.1 j (omega arith))

@@ -1,6 +1,6 @@
 -- Both lists are tested before either is counted.
 use mathlib.Core.Bool.{true, ◌&&◌}
-use mathlib.Core.Path.{◌≡◌, sym, subst, ◌∙◌}
+use mathlib.Core.Path.{◌≡◌, refl, sym, subst, ◌∙◌}
 use lib.Dec.{T}
 use lib.Ieee.Fits.{and_l}
 use Rattle.step_one.specs.StepOne.{all_countable, measured}
@@ -19,14 +19,14 @@ passed c = both c.before ∙ c.if-not-are_countable.false
 
 pub returns-then-not-are_countable : goal.returns-then-not-are_countable
 unfolding measured
-returns-then-not-are_countable c = rw (both (goal.at.returns-then-not-are_countable c).After-are_countable-2 ∙ c.if-not-are_countable.true) c.refuse.ensures
+returns-then-not-are_countable c = rw (both (goal.at.returns-then-not-are_countable c).After-are_countable-2 ∙ c.if-not-are_countable.true) refl
 
-pub without_permanent-in_c-requires : goal.without_permanent-in_c-requires
-without_permanent-in_c-requires c =
-    let t = and_l (all_countable c.args.f.c) (all_countable c.args.f.s) (subst T (sym (passed (goal.at.without_permanent-in_c-requires c).Else-not-are_countable)) tt) in
+pub without_permanent-requires : goal.without_permanent-requires
+without_permanent-requires c =
+    let t = and_l (all_countable c.args.f.c) (all_countable c.args.f.s) (subst T (sym (passed (goal.at.without_permanent-requires c).Else-not-are_countable)) tt) in
     subst (Small 52) (sym c.counts_c.ensures) (record { size = counts_c_small c.args.f.c t })
 
 pub returns : goal.returns
 unfolding measured
 returns c =
-    rw (passed (goal.at.returns c).Else-not-are_countable, c.without_permanent-in_c.ensures, c.counts_c.ensures, c.counts_s-in_s.ensures)
+    rw (passed (goal.at.returns c).Else-not-are_countable, c.without_permanent.ensures, c.counts_c.ensures, c.counts_s.ensures)

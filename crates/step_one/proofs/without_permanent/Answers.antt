@@ -28,8 +28,8 @@ module _ (c : After-permanent_part) where
   less : SFits w64 (c20 -ℤ permanent_part c.args.love)
   less = fits_abs w64 (c20 -ℤ permanent_part c.args.love) (omega (arith, less-small c.args.love c.args.by c.requires))
 
-pub overflow_sub-out : goal.overflow_sub-out
-overflow_sub-out c = let p = (goal.at.overflow_sub-out c).After-permanent_part in rw (to_z-of_z (c20-fits p), part-is p) (less p)
+pub overflow_sub-by : goal.overflow_sub-by
+overflow_sub-by c = let p = (goal.at.overflow_sub-by c).After-permanent_part in rw (to_z-of_z (c20-fits p), part-is p) (less p)
 
 pub returns : goal.returns
 unfolding without_permanent

@@ -10,7 +10,7 @@ use mir.Syntax.{w64}
 use Rattle.whole.proofs.Counted.{weight_none, weight_more}
 use Rattle.whole.proofs.Parts.{abs_sum}
 use Rattle.sheet.specs.Sheet.{line_count, tide_count, admittance}
-use Rattle.sheet.proofs.Acceptance.{Accepted, accepted, whole_of}
+use Rattle.sheet.proofs.Acceptance.{Accepted, accepted}
 use Rattle.sheet.proofs.Signs.{told}
 use Rattle.tides.specs.Tides.{line_sum}
 use Rattle.tides.specs.Inner.{lowered, total}
@@ -30,8 +30,8 @@ row-lowered {s} A k h waves f lines x y t F L X Y T e =
     ∙ rw (X, Y, T, F, L)
     (lowered_row (admittance s k) (λ i. get_or waves i 0) (2 ^ 22) (2 ^ 30) (line_count s) (λ i g. omega (arith, admittance_size A (λ j. pos 0) (λ j m. omega arith) k h i g)))
 
-lines-most : (s : Start) → line_count s.args.sheet.now ≤ 128
-lines-most s = (accepted _ s.requires.0.passed.own).shape.lines-most
+lines-most : (s : Start) → line_count s.args.waves.now.accepted.sheet.bytes.now ≤ 128
+lines-most s = (accepted _ s.args.waves.now.accepted.own).shape.lines-most
 
 -- an admittance of an accepted sheet
 small_at : {s : List ℕ} → Accepted s → (k f : ℕ) → k < tide_count s → f < line_count s → nat_abs (admittance s k f) ≤ 4000000
@@ -40,45 +40,42 @@ small_at A k f h g = admittance_size A (λ i. pos 0) (λ i m. omega arith) k h f
 -- a turn, once the admittance is raised
 module _ (c : After-raised-a) where
   abbrev a : ℤ
-  a = admittance c.args.sheet.now c.args.k c.loop-f.f
+  a = admittance c.args.waves.now.accepted.sheet.bytes.now c.args.k c.loop-f.f
 
   v-is : c.raised-a.result ≡ nat_abs (a +ℤ pos (2 ^ 22))
   v-is = c.raised-a.ensures ∙ ap (λ (z : ℤ). nat_abs (z +ℤ pos (2 ^ 22))) (told w64 c.admittance_at.type_inv c.admittance_at.ensures.0)
 
   v-small : c.raised-a.result ≤ 2 ^ 23
-  v-small = rw v-is (omega (arith, abs_sum a (pos (2 ^ 22)), small_at (accepted _ c.requires.0.passed.own) c.args.k c.loop-f.f c.requires.1.0 (omega arith)))
+  v-small = rw v-is (omega (arith, abs_sum a (pos (2 ^ 22)), small_at (accepted _ c.args.waves.now.accepted.own) c.args.k c.loop-f.f c.requires (omega arith)))
 
-  cosine-small : get_or c.args.cosines.now c.loop-f.f 0 ≤ 2 ^ 31
-  cosine-small = c.requires.0.cosines.each c.loop-f.f (omega arith)
+  cosine-small : get_or c.args.waves.now.cosines c.loop-f.f 0 ≤ 2 ^ 31
+  cosine-small = c.args.waves.now.cosines_bounded.each c.loop-f.f (omega arith)
 
-  sine-small : get_or c.args.sines.now c.loop-f.f 0 ≤ 2 ^ 31
-  sine-small = c.requires.0.sines.each c.loop-f.f (omega arith)
+  sine-small : get_or c.args.waves.now.sines c.loop-f.f 0 ≤ 2 ^ 31
+  sine-small = c.args.waves.now.sines_bounded.each c.loop-f.f (omega arith)
 
-  x-small : c.raised-a.result * get_or c.args.cosines.now c.loop-f.f 0 ≤ 2 ^ 54
+  x-small : c.raised-a.result * get_or c.args.waves.now.cosines c.loop-f.f 0 ≤ 2 ^ 54
   x-small = mul-le-mul v-small cosine-small
 
-  y-small : c.raised-a.result * get_or c.args.sines.now c.loop-f.f 0 ≤ 2 ^ 54
+  y-small : c.raised-a.result * get_or c.args.waves.now.sines c.loop-f.f 0 ≤ 2 ^ 54
   y-small = mul-le-mul v-small sine-small
 
 pub loop-f-init : goal.loop-f-init
-loop-f-init c = (omega arith, weight_none _, weight_none _, weight_none _, omega arith, omega arith, omega arith)
-
-pub admittance_at-requires : goal.admittance_at-requires
-admittance_at-requires c = (whole_of c.requires.0.passed, (c.requires.1.0, omega arith))
+loop-f-init c = (weight_none _, weight_none _, weight_none _, omega arith, omega arith, omega arith)
 
 pub raised-a-requires : goal.raised-a-requires
 raised-a-requires c =
     rw (told w64 c.admittance_at.type_inv c.admittance_at.ensures.0)
-    (omega (arith, small_at (accepted _ c.requires.0.passed.own) c.args.k c.loop-f.f c.requires.1.0 (omega arith)), omega arith)
+    (omega (arith, small_at (accepted _ c.args.waves.now.accepted.own) c.args.k c.loop-f.f c.requires (omega arith)), omega arith)
 
-pub bounds-cosines-f : goal.bounds-cosines-f
-bounds-cosines-f c = omega (arith, lines-most (goal.at.bounds-cosines-f c).Start)
+pub bounds-waves-f : goal.bounds-waves-f
+bounds-waves-f c = omega (arith, lines-most (goal.at.bounds-waves-f c).Start)
 
 pub plus_line-x-requires : goal.plus_line-x-requires
 plus_line-x-requires c = omega (arith, x-small (goal.at.plus_line-x-requires c).After-raised-a, lines-most (goal.at.plus_line-x-requires c).Start)
 
-pub bounds-sines-f : goal.bounds-sines-f
-bounds-sines-f c = omega (arith, lines-most (goal.at.bounds-sines-f c).Start)
+pub bounds-waves-f-in-loop-f : goal.bounds-waves-f-in-loop-f
+bounds-waves-f-in-loop-f c = omega (arith, lines-most (goal.at.bounds-waves-f-in-loop-f c).Start)
 
 pub plus_line-y-requires : goal.plus_line-y-requires
 plus_line-y-requires c = omega (arith, y-small (goal.at.plus_line-y-requires c).After-raised-a, lines-most (goal.at.plus_line-y-requires c).Start)
@@ -90,10 +87,9 @@ pub loop-f-preserved : goal.loop-f-preserved
 loop-f-preserved c =
     let l = c.loop-f in
     let termOf : List ℕ → ℕ → ℕ = λ waves v. v * get_or waves l.f 0 in (
-      omega arith,
-      c.plus_line-x.ensures ∙ weight_more _ l.f l.invariant.1 (ap (termOf (goal.at.loop-f-preserved c).Start.args.cosines.now) (v-is (goal.at.loop-f-preserved c).After-raised-a)),
-      c.plus_line-y.ensures ∙ weight_more _ l.f l.invariant.2 (ap (termOf (goal.at.loop-f-preserved c).Start.args.sines.now) (v-is (goal.at.loop-f-preserved c).After-raised-a)),
-      weight_more _ l.f l.invariant.3 (v-is (goal.at.loop-f-preserved c).After-raised-a),
+      c.plus_line-x.ensures ∙ weight_more _ l.f l.invariant.0 (ap (termOf (goal.at.loop-f-preserved c).Start.args.waves.now.cosines) (v-is (goal.at.loop-f-preserved c).After-raised-a)),
+      c.plus_line-y.ensures ∙ weight_more _ l.f l.invariant.1 (ap (termOf (goal.at.loop-f-preserved c).Start.args.waves.now.sines) (v-is (goal.at.loop-f-preserved c).After-raised-a)),
+      weight_more _ l.f l.invariant.2 (c.from-row.ensures ∙ v-is (goal.at.loop-f-preserved c).After-raised-a),
       omega (arith, x-small (goal.at.loop-f-preserved c).After-raised-a, c.plus_line-x.ensures),
       omega (arith, y-small (goal.at.loop-f-preserved c).After-raised-a, c.plus_line-y.ensures),
       omega (arith, v-small (goal.at.loop-f-preserved c).After-raised-a),
@@ -102,16 +98,16 @@ loop-f-preserved c =
 -- once all lines are passed
 module _ (c : After-loop-f) where
   abbrev n : ℕ
-  n = line_count c.args.sheet.now
+  n = line_count c.args.waves.now.accepted.sheet.bytes.now
 
   all : c.loop-f.f ≡ n
   all = omega arith
 
-  cosine-total-small : c.args.cosine_total ≤ 2 ^ 38
-  cosine-total-small = omega (arith, total_size c.requires.0.cosines, (accepted _ c.requires.0.passed.own).shape.lines-most)
+  cosine-total-small : c.args.waves.now.cosine_total ≤ 2 ^ 38
+  cosine-total-small = omega (arith, total_size c.args.waves.now.cosines_bounded, c.args.waves.now.cosines_added, (accepted _ c.args.waves.now.accepted.own).shape.lines-most)
 
-  sine-total-small : c.args.sine_total ≤ 2 ^ 38
-  sine-total-small = omega (arith, total_size c.requires.0.sines, (accepted _ c.requires.0.passed.own).shape.lines-most)
+  sine-total-small : c.args.waves.now.sine_total ≤ 2 ^ 38
+  sine-total-small = omega (arith, total_size c.args.waves.now.sines_bounded, c.args.waves.now.sines_added, (accepted _ c.args.waves.now.accepted.own).shape.lines-most)
 
 pub lowered_sum-requires : goal.lowered_sum-requires
 lowered_sum-requires c = (omega (arith, lines-most (goal.at.lowered_sum-requires c).Start), (omega (arith, lines-most (goal.at.lowered_sum-requires c).Start), (cosine-total-small (goal.at.lowered_sum-requires c).After-loop-f, omega (arith, lines-most (goal.at.lowered_sum-requires c).Start))))
@@ -121,12 +117,11 @@ lowered_sum-requires-2 c = (omega (arith, lines-most (goal.at.lowered_sum-requir
 
 pub returns : goal.returns
 returns c =
-    let x = c.args in
-    let p = c.requires in
+    let w = c.args.waves.now in
     let i = c.loop-f.invariant in
-    let A = accepted _ p.0.passed.own in
-    let lines = p.0.passed.laid.lines in
+    let A = accepted _ w.accepted.own in
+    let lines = w.accepted.sheet.laid.lines in
     record {
-      cosines = told w64 c.lowered_sum.type_inv (row-lowered A x.k p.1.0 x.cosines.now c.loop-f.f x.l.lines _ _ _ (all (goal.at.returns c).After-loop-f) lines i.1 i.3 p.1.1.0 c.lowered_sum.ensures);
-      sines = told w64 c.lowered_sum-2.type_inv (row-lowered A x.k p.1.0 x.sines.now c.loop-f.f x.l.lines _ _ _ (all (goal.at.returns c).After-loop-f) lines i.2 i.3 p.1.1.1 c.lowered_sum-2.ensures);
+      cosines = told w64 c.lowered_sum.type_inv (row-lowered A c.args.k c.requires w.cosines c.loop-f.f w.accepted.sheet.layout.lines _ _ _ (all (goal.at.returns c).After-loop-f) lines i.0 i.2 w.cosines_added c.lowered_sum.ensures);
+      sines = told w64 c.lowered_sum-2.type_inv (row-lowered A c.args.k c.requires w.sines c.loop-f.f w.accepted.sheet.layout.lines _ _ _ (all (goal.at.returns c).After-loop-f) lines i.1 i.2 w.sines_added c.lowered_sum-2.ensures);
     }

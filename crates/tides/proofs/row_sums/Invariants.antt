@@ -1,7 +1,7 @@
 -- The loop adds up raised products and raised admittances; lowered again they are the row's sums.
 use mathlib.Core.List.{List}
 use mathlib.Core.Path.{◌≡◌}
-use Prim.Native.Nat.{ℕ, ◌-◌, ◌*◌, ◌^◌, ◌≤◌}
+use Prim.Native.Nat.{ℕ, ◌*◌, ◌^◌, ◌≤◌}
 use lib.ListN.{get_or}
 use Rattle.sheet.specs.Sheet.{admittance}
 use Rattle.tides.proofs.Lowering.{products, row}
@@ -16,7 +16,5 @@ row_of s k f = row (admittance s k) (λ i. 0) (2 ^ 22) (2 ^ 30) f
 
 abbrev pub invariant-loop-f : goal.invariant-loop-f
 invariant-loop-f l =
-    (l.f ≤ l.lines) × (l.x ≡ products_of l.sheet l.k l.cosines l.f) × (l.y ≡ products_of l.sheet l.k l.sines l.f) × (l.row ≡ row_of l.sheet l.k l.f) × (l.x ≤ l.f * 2 ^ 54) × (l.y ≤ l.f * 2 ^ 54) × (l.row ≤ l.f * 2 ^ 23)
-
-abbrev pub decreases-loop-f : goal.decreases-loop-f
-decreases-loop-f l = l.lines - l.f
+    let s = l.waves.accepted.sheet.bytes.now in
+    (l.x ≡ products_of s l.k l.waves.cosines l.f) × (l.y ≡ products_of s l.k l.waves.sines l.f) × (l.row ≡ row_of s l.k l.f) × (l.x ≤ l.f * 2 ^ 54) × (l.y ≤ l.f * 2 ^ 54) × (l.row ≤ l.f * 2 ^ 23)

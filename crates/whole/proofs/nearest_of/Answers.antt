@@ -7,10 +7,7 @@ use Rattle.whole.proofs.Machine.{minus_read}
 use Rattle.whole.proofs.Signs.{below_zero, from_zero}
 use Rattle.whole.proofs.Rounding.{nearest_above, nearest_below}
 use Rattle.whole.proofs.nearest_of.Goals as goal
-use Rattle.whole.proofs.nearest_of.Goals.{After-size_of, After-half_up-size}
-
-found : (c : After-size_of) → c.size_of.result ≡ nat_abs c.before.args.x
-found c = rw (to_z-of_z c.before.ranges.x) at c.size_of.ensures
+use Rattle.whole.proofs.nearest_of.Goals.{After-half_up-size}
 
 -- the size as it was rounded
 module _ (c : After-half_up-size) where
@@ -24,7 +21,7 @@ module _ (c : After-half_up-size) where
   size = c.half_up-size.result
 
   size_is : size ≡ (nat_abs x + n / 2) / n
-  size_is = rw (found c.before) at c.half_up-size.ensures
+  size_is = rw (c.before.unsigned_abs.ensures.value, to_z-of_z c.before.before.ranges.x) at c.half_up-size.ensures
 
   small : size < 2 ^ 63
   small =

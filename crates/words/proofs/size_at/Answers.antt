@@ -1,15 +1,15 @@
--- Below half the range a word is its own absolute value, and from there on what it lacks of the range.
-use Prim.Native.Nat.{◌^◌}
+-- The size of the word's bits, read as a signed number.
 use native.Mathlib.Omega.{arith}
-use Rattle.words.proofs.Signs.{size_below, size_above}
+use mathlib.Core.Path.{refl}
+use Prim.Native.Nat.{◌^◌, ◌<◌}
+use mir.Syntax.{w32}
+use Rattle.whole.proofs.Machine.{back}
+use Rattle.words.proofs.Signs.{signed_is, complement_small}
 use Rattle.words.proofs.size_at.Goals as goal
 
-pub returns-then-word-lt2147483648 : goal.returns-then-word-lt2147483648
-returns-then-word-lt2147483648 c =
-    let v = c.before.word_at-word.result in
-    rw (← c.before.word_at-word.ensures) (size_below (2 ^ 31) v (omega arith) (omega arith), omega arith)
-
-pub returns-else-word-lt2147483648 : goal.returns-else-word-lt2147483648
-returns-else-word-lt2147483648 c =
-    let v = c.before.word_at-word.result in
-    rw (← c.before.word_at-word.ensures) (omega (arith, size_above (2 ^ 31) v (omega arith) (omega arith)), omega arith)
+pub returns : goal.returns
+returns c =
+    let v = c.word_at.result in
+    let h : v < 2 ^ 32 = omega arith in
+    rw (c.unsigned_abs.ensures.value, back w32 c.cast_signed.result c.cast_signed.type_inv, c.cast_signed.ensures, signed_is w32 v h refl, ← c.word_at.ensures)
+    (refl, complement_small (2 ^ 31) v h)

@@ -1,6 +1,0 @@
--- Each count is read where the section before it ends, and counts of 16 bits overflow nothing.
-use Rattle.sheet.proofs.Offsets.{laid}
-use Rattle.sheet.proofs.layout_of.Goals as goal
-
-pub returns : goal.returns
-returns c = laid c.args.sheet.now _ _ _ c.half_at-lines.ensures.0 c.half_at-tides.ensures.0 c.half_at-places.ensures.0
