@@ -6,7 +6,6 @@ use Prim.Native.Nat.{ℕ, ◌+◌, ◌-◌, ◌≤◌, ◌<◌}
 use native.Mathlib.Omega.{arith}
 use borrow.Author.Tests.{leb-true, leb-false, eqb-true, eq-eqb, eqb-false, ne_eqb}
 use lib.Dec.{T, eqb, leb}
-use lib.IntN.{ℤ, pos}
 use lib.ListN.{length, drop, length-drop, get_or-eq_default}
 use lib.Seq.{length-take-le}
 use Rattle.whole.proofs.Tests.{and_left, and_right}
@@ -19,16 +18,12 @@ use Rattle.icgem_file.specs.Data.{columned, line_formed}
 use Rattle.icgem_words.specs.Inner.{part}
 use Rattle.icgem_words.specs.Words.{pieces, words, same_word}
 use Rattle.icgem_words.proofs.Same.{same_equal}
-use Rattle.icgem_data.specs.Inner.{FiveWords, paired, NumbersTaken, LineTaken}
+use Rattle.icgem_data.specs.Inner.{FiveWords, paired, is_numbers, NumbersTaken, LineTaken}
+use Rattle.icgem_data.specs.declared.Coefficients.{Coefficients}
+use Rattle.std.specs.Prelude.{Option, Some, None}
+use mathlib.Core.Logic.{◌⊎◌, inl, inr}
 
--- ---- the first word and the columns
-module _ {word : List ℕ} {w : List ℕ} {same : Bool} (e : word ≡ w) (s : same ≡ same_word word gfc) where
-  pub headed : {n m : ℕ} → same ≡ true → n ≡ m → paired n ≡ (same_word w gfc && paired m)
-  headed {n} {m} h g = ap paired g ∙ ap (λ (b : Bool). b && paired m) (sym h ∙ s ∙ ap (λ (v : List ℕ). same_word v gfc) e)
-
-  pub not_headed : (m : ℕ) → same ≡ false → false ≡ (same_word w gfc && paired m)
-  not_headed m h = ap (λ (b : Bool). b && paired m) (sym h ∙ s ∙ ap (λ (v : List ℕ). same_word v gfc) e)
-
+-- ---- the columns
 eqb_moved : (n k : ℕ) → 5 ≤ n → eqb n (5 + k) ≡ eqb (n - 5) k
 eqb_moved n k h =
     either (eqb n (5 + k))
@@ -42,6 +37,11 @@ columns_long : (n : ℕ) → (eqb n 5 || (eqb n 7 || eqb n 9)) ≡ true → 5 �
 columns_long n e =
     either (leb 5 n) (leb-true 5 n)
     (λ g. let h = leb-false 5 n g in absurd (subst T (sym (rw (ne_eqb n 5 (λ q. omega arith), ne_eqb n 7 (λ q. omega arith), ne_eqb n 9 (λ q. omega arith)) at e)) tt))
+
+pub paired_is : (n : ℕ) → (n ≡ 0) ⊎ ((n ≡ 2) ⊎ (n ≡ 4)) → paired n ≡ true
+paired_is n (inl e) = rw e
+paired_is n (inr (inl e)) = rw e
+paired_is n (inr (inr e)) = rw e
 
 -- ---- words that are numbers are not empty
 whole_some : (word : List ℕ) → is_whole word ≡ true → 0 < length word
@@ -61,10 +61,6 @@ pub part_length : (line : List ℕ) (from to : ℕ) → to ≤ length line → l
 part_length line from to h = length-take-le (to - from) (drop from line) (omega (arith, length-drop from line))
 
 -- ---- the line
-module _ {d o c s d' o' c' s' : List ℕ} (D : d ≡ d') (O : o ≡ o') (C : c ≡ c') (S : s ≡ s') where
-  pub numbers_at : {most : List ℕ} {ok inside : Bool} {at : ℕ} {x y : ℤ} → NumbersTaken d o c s most ok inside at x y → NumbersTaken d' o' c' s' most ok inside at x y
-  numbers_at t = rw (← D, ← O, ← C, ← S) t
-
 module _ {line : List ℕ} {f t f1 t1 f2 t2 f3 t3 f4 t4 : ℕ} (w : FiveWords line f t f1 t1 f2 t2 f3 t3 f4 t4) where
   abbrev Headed : Bool
   Headed = same_word (part f t line) gfc && paired (length (words (drop t4 line)))
@@ -83,53 +79,44 @@ module _ {line : List ℕ} {f t f1 t1 f2 t2 f3 t3 f4 t4 : ℕ} (w : FiveWords li
       let c = and_right (keyed gfc (words line)) (columned (words line)) front in
       rw (key-is, k, left) (sym (columns (length (words line)) (columns_long (length (words line)) c)) ∙ c)
 
-  pub line_refused : (n : ℕ) {head : Bool} → head ≡ Headed → head ≡ false → LineTaken n line false false 0 (pos 0) (pos 0)
-  line_refused n H e =
-      record {
-        ok_is = sym (not_so (line_formed n (words line)) (λ g. subst T (sym (H ∙ formed_headed n g) ∙ e) tt));
-        long = λ k. absurd (subst T (sym k) tt);
-        stands = λ k. absurd (subst T (sym k) tt);
-        inside_is = λ k. absurd (subst T (sym k) tt);
-        c_is = λ k. absurd (subst T (sym k) tt);
-        s_is = λ k. absurd (subst T (sym k) tt);
-      }
+  pub line_refused : (n : ℕ) → Headed ≡ false → line_formed n (words line) ≡ false
+  line_refused n e = not_so (line_formed n (words line)) (λ g. subst T (sym (formed_headed n g) ∙ e) tt)
 
-  module _ (H : Headed ≡ true) {most : List ℕ} {ok inside : Bool} {at : ℕ} {x y : ℤ}
-      (N : NumbersTaken (part f1 t1 line) (part f2 t2 line) (part f3 t3 line) (part f4 t4 line) most ok inside at x y) where
-    abbrev numbers : NumbersTaken (word_at 1 (words line)) (word_at 2 (words line)) (word_at 3 (words line)) (word_at 4 (words line)) most ok inside at x y
-    numbers = numbers_at (sym w.word1.word) (sym w.word2.word) (sym w.word3.word) (sym w.word4.word) N
+  module _ (H : Headed ≡ true) (most : List ℕ) where
+    abbrev Numbers : Bool
+    Numbers = is_numbers (word_at 1 (words line)) (word_at 2 (words line)) (word_at 3 (words line)) (word_at 4 (words line)) most
 
     abbrev Both : Bool
     Both = keyed gfc (words line) && columned (words line)
 
-    wholes : ok ≡ true → (is_whole (word_at 1 (words line)) && is_whole (word_at 2 (words line))) ≡ true
-    wholes e = and_left (is_whole (word_at 1 (words line)) && is_whole (word_at 2 (words line))) _ (sym numbers.ok_is ∙ e)
+    wholes : Numbers ≡ true → (is_whole (word_at 1 (words line)) && is_whole (word_at 2 (words line))) ≡ true
+    wholes e = and_left (is_whole (word_at 1 (words line)) && is_whole (word_at 2 (words line))) _ e
 
-    decimals : ok ≡ true → (is_decimal (word_at 3 (words line)) && is_decimal (word_at 4 (words line))) ≡ true
+    decimals : Numbers ≡ true → (is_decimal (word_at 3 (words line)) && is_decimal (word_at 4 (words line))) ≡ true
     decimals e =
         and_left (is_decimal (word_at 3 (words line)) && is_decimal (word_at 4 (words line))) _
-        (and_right (is_whole (word_at 1 (words line)) && is_whole (word_at 2 (words line))) _ (sym numbers.ok_is ∙ e))
+        (and_right (is_whole (word_at 1 (words line)) && is_whole (word_at 2 (words line))) _ e)
 
-    some4 : ok ≡ true → 0 < length (word_at 4 (words line))
+    some4 : Numbers ≡ true → 0 < length (word_at 4 (words line))
     some4 e = decimal_some (word_at 4 (words line)) (and_right (is_decimal (word_at 3 (words line))) _ (decimals e))
 
-    some3 : ok ≡ true → 0 < length (word_at 3 (words line))
+    some3 : Numbers ≡ true → 0 < length (word_at 3 (words line))
     some3 e = decimal_some (word_at 3 (words line)) (and_left (is_decimal (word_at 3 (words line))) _ (decimals e))
 
-    front : ok ≡ true → Both ≡ true
+    front : Numbers ≡ true → Both ≡ true
     front e =
         let p = rw left at (and_right (same_word (part f t line) gfc) (paired (length (words (drop t4 line)))) H) in
         ap₂ ◌&&◌ (sym key-is ∙ and_left (same_word (part f t line) gfc) _ H) (columns (length (words line)) (there 4 (words line) (some4 e)) ∙ p)
 
-    formed : ok ≡ line_formed (value_of most) (words line)
+    formed : line_formed (value_of most) (words line) ≡ Numbers
     unfolding line_formed
     formed =
-        either ok
-        (λ e. e ∙ sym (ap₂ ◌&&◌ (front e) (sym numbers.ok_is ∙ e)))
-        (λ e. e ∙ sym (ap (λ (b : Bool). Both && b) (sym numbers.ok_is ∙ e) ∙ and_false Both))
+        either Numbers
+        (λ e. ap (λ (b : Bool). b && Numbers) (front e))
+        (λ e. ap (λ (b : Bool). Both && b) e ∙ and_false Both ∙ sym e)
 
     -- the first word has three bytes, and each other one at least
-    long : ok ≡ true → 7 ≤ length line
+    long : Numbers ≡ true → 7 ≤ length line
     unfolding ascii
     long e =
         let a = ap length (same_equal (part f t line) gfc (and_left (same_word (part f t line) gfc) _ H)) in
@@ -139,6 +126,9 @@ module _ {line : List ℕ} {f t f1 t1 f2 t2 f3 t3 f4 t4 : ℕ} (w : FiveWords li
         let s4 = rw (w.word4.word, part_length line f4 t4 w.word4.within) at (some4 e) in
         omega (arith, part_length line f t w.word0.within)
 
-    pub line_taken : LineTaken (value_of most) line ok inside at x y
-    line_taken =
-        record { ok_is = formed; long = long; stands = numbers.stands; inside_is = numbers.inside_is; c_is = numbers.c_is; s_is = numbers.s_is }
+    pub line_taken : {d o c s : List ℕ} (result : Option Coefficients) → d ≡ part f1 t1 line → o ≡ part f2 t2 line → c ≡ part f3 t3 line → s ≡ part f4 t4 line
+        → NumbersTaken d o c s most result → LineTaken (value_of most) line result
+    line_taken None D O C S N = formed ∙ rw (D ∙ sym w.word1.word, O ∙ sym w.word2.word, C ∙ sym w.word3.word, S ∙ sym w.word4.word) at N
+    line_taken (Some k) D O C S N =
+        let N' = rw (D ∙ sym w.word1.word, O ∙ sym w.word2.word, C ∙ sym w.word3.word, S ∙ sym w.word4.word) at N in
+        record { formed = formed ∙ N'.0; long = long N'.0; stands = N'.1.0; counts_are = N'.1.1 }

@@ -9,9 +9,16 @@ ghost use Rattle.icgem_decimal.specs.Decimal.{is_whole, value_of};
 ghost use Rattle.icgem_names.specs.Names.{gfc};
 ghost use Rattle.icgem_words.specs.Inner.{part};
 ghost use Rattle.icgem_words.specs.Words.{words, same_word};
-ghost use Rattle.icgem_data.specs.Inner.{FiveWords, CountTaken, StandsHeld, PlaceTaken, NumbersTaken, paired, LineTaken, LineKept, LinesRead};
+ghost use Rattle.icgem_data.specs.Inner.{FiveWords, CountTaken, PlaceTaken, NumbersTaken, paired, LineTaken, LineKept, LinesRead};
 
+use icgem_decimal::{Decimal, WholeError};
 use icgem_words::Span;
+
+// The size of the largest entry.
+const LARGEST: u64 = 1 << 60;
+
+// How many entries a list of degree 60 has.
+const ENTRIES: usize = 1891;
 
 // The first five words of a line.
 #[derive(Clone, Copy)]
@@ -32,32 +39,15 @@ fn five_words(line: &[u8]) -> Five
     let c = icgem_words::next_word(line, order.to);
     let s = icgem_words::next_word(line, c.to);
     Five {
-        key: key,
-        degree: degree,
-        order: order,
-        c: c,
-        s: s,
+        key,
+        degree,
+        order,
+        c,
+        s,
     }
 }
 
-fn word_of(line: &[u8], word: Span) -> &[u8]
-    requires from_le_to { word.from ≤ word.to }
-    requires to_in_bounds { word.to ≤ length line.now }
-    ensures { result.now ≡ part word.from word.to line.now }
-{
-    let from = word.from;
-    let to = word.to;
-    &line[from..to]
-}
-
-// A decimal in units of 10^-15, where the word is one, and whether it is an entry.
-#[derive(Clone, Copy)]
-struct Count {
-    ok: bool,
-    inside: bool,
-    count: i64,
-}
-
+#[tactic(auto, unfolding(whole::specs::Nearest::signed))]
 fn with_sign(negative: bool, size: u64) -> i64
     requires { size ≤ 2 ^ 60 }
     ensures { result ≡ signed negative size }
@@ -66,26 +56,18 @@ fn with_sign(negative: bool, size: u64) -> i64
     if negative { -count } else { count }
 }
 
-fn count_of(word: &[u8]) -> Count
-    requires { length word.now ≤ 131072 }
-    ensures { CountTaken word.now result.ok result.inside result.count }
+// A decimal's count, where it is an entry.
+fn count_of(decimal: Decimal) -> Option<i64>
+    ensures { CountTaken decimal result }
 {
-    let d = icgem_decimal::in_units(word, 15);
-    if d.over | (1152921504606846976 < d.size) {
-        return Count {
-            ok: d.ok,
-            inside: false,
-            count: 0,
-        };
-    }
-    Count {
-        ok: d.ok,
-        inside: true,
-        count: with_sign(d.negative, d.size),
+    match decimal.size {
+        Some(size) if size <= LARGEST => Some(with_sign(decimal.negative, size)),
+        _ => None,
     }
 }
 
 // The place of a degree and an order in a field's lists.
+#[tactic(auto, unfolding(field::specs::Field::place))]
 fn index_of(degree: usize, order: usize) -> usize
     requires degree_bound { degree ≤ 60 }
     requires order_le_degree { order ≤ degree }
@@ -94,109 +76,80 @@ fn index_of(degree: usize, order: usize) -> usize
     degree * (degree + 1) / 2 + order
 }
 
-// The same of a degree of any size: past the entries of degree 60 where it is above that.
-fn index_past(over: bool, degree: u64, order: u64) -> usize
-    requires { over ≡ false → order ≤ degree }
-    ensures { StandsHeld over degree order result }
-{
-    if over | (60 < degree) {
-        1891
-    } else {
-        index_of(degree as usize, order as usize)
-    }
-}
-
-#[derive(Clone, Copy)]
-struct Place {
-    ok: bool,
-    at: usize,
-}
-
-fn place_of(degree: &[u8], order: &[u8], most: &[u8]) -> Place
+// The place of a degree and an order, past every list where the degree is above 60; none where they are no numbers, the order is
+// above the degree, or the degree above the file's.
+fn place_of(degree: &[u8], order: &[u8], most: &[u8]) -> Option<usize>
     requires { is_whole most.now ≡ true }
-    ensures { PlaceTaken degree.now order.now most.now result.ok result.at }
+    ensures { PlaceTaken degree.now order.now most.now result }
 {
-    let l = icgem_decimal::whole_number(degree);
+    let n = icgem_decimal::whole_number(degree);
     let m = icgem_decimal::whole_number(order);
-    if l.ok & m.ok {
-        if icgem_decimal::at_most(order, degree) & icgem_decimal::at_most(degree, most) {
-            return Place {
-                ok: true,
-                at: index_past(l.over, l.value, m.value),
-            };
-        }
+    if matches!(n, Err(WholeError::NotWhole)) || matches!(m, Err(WholeError::NotWhole)) {
+        return None;
     }
-    Place { ok: false, at: 0 }
+    if icgem_decimal::at_most(order, degree) && icgem_decimal::at_most(degree, most) {
+        match (n, m) {
+            (Ok(n), Ok(m)) if n <= 60 => Some(index_of(n as usize, m as usize)),
+            _ => Some(ENTRIES),
+        }
+    } else {
+        None
+    }
 }
 
-// A coefficient line: whether it is one, whether both its counts are entries, where they stand, and they.
-#[derive(Clone, Copy)]
+// A coefficient line: the place of its counts, and they, where both are entries.
+#[derive(Clone, Copy, Debug, PartialEq, Eq)]
 pub struct Coefficients {
-    pub ok: bool,
-    pub inside: bool,
     pub place: usize,
-    pub c: i64,
-    pub s: i64,
+    pub counts: Option<(i64, i64)>,
 }
 
-fn numbers_of(degree: &[u8], order: &[u8], c: &[u8], s: &[u8], most: &[u8]) -> Coefficients
+fn numbers_of(degree: &[u8], order: &[u8], c: &[u8], s: &[u8], most: &[u8]) -> Option<Coefficients>
     requires c_len_bound { length c.now ≤ 131072 }
     requires s_len_bound { length s.now ≤ 131072 }
     requires most_value { is_whole most.now ≡ true }
-    ensures { NumbersTaken degree.now order.now c.now s.now most.now result.ok result.inside result.place result.c result.s }
+    ensures { NumbersTaken degree.now order.now c.now s.now most.now result }
 {
-    let p = place_of(degree, order, most);
-    let x = count_of(c);
-    let y = count_of(s);
-    Coefficients {
-        ok: p.ok & (x.ok & y.ok),
-        inside: x.inside & y.inside,
-        place: p.at,
-        c: x.count,
-        s: y.count,
-    }
+    let place = place_of(degree, order, most)?;
+    let c = icgem_decimal::in_units(c, 15)?;
+    let s = icgem_decimal::in_units(s, 15)?;
+    Some(Coefficients {
+        place,
+        counts: count_of(c).zip(count_of(s)),
+    })
 }
 
 // Whether a line's first word is "gfc" and 0, 2 or 4 error columns stand behind its fifth.
 fn is_headed(line: &[u8], key: Span, after: usize) -> bool
-    requires from_le_to { key.from ≤ key.to }
     requires to_in_bounds { key.to ≤ length line.now }
     requires after_in_bounds { after ≤ length line.now }
     ensures { result ≡ (same_word (part key.from key.to line.now) gfc && paired (length (words (drop after line.now)))) }
 {
-    if icgem_words::same_word(word_of(line, key), b"gfc") {
-        let columns = icgem_words::count_words(line, after);
-        (columns == 0) | ((columns == 2) | (columns == 4))
-    } else {
-        false
-    }
+    icgem_words::same_word(key.of(line), b"gfc")
+        && matches!(icgem_words::count_words(line, after), 0 | 2 | 4)
 }
 
-pub fn line_of(line: &[u8], degree: &[u8]) -> Coefficients
+// None where the line is no coefficient line of a file of this degree.
+pub fn line_of(line: &[u8], degree: &[u8]) -> Option<Coefficients>
     requires line_len_bound { length line.now ≤ 131072 }
     requires degree_value { is_whole degree.now ≡ true }
-    ensures { LineTaken (value_of degree.now) line.now result.ok result.inside result.place result.c result.s }
+    ensures { LineTaken (value_of degree.now) line.now result }
 {
     let w = five_words(line);
     if is_headed(line, w.key, w.s.to) {
-        return numbers_of(
-            word_of(line, w.degree),
-            word_of(line, w.order),
-            word_of(line, w.c),
-            word_of(line, w.s),
+        numbers_of(
+            w.degree.of(line),
+            w.order.of(line),
+            w.c.of(line),
+            w.s.of(line),
             degree,
-        );
-    }
-    Coefficients {
-        ok: false,
-        inside: false,
-        place: 0,
-        c: 0,
-        s: 0,
+        )
+    } else {
+        None
     }
 }
 
-// Sets an entry; one past the list's end is none.
+// Sets an entry; one past the list's end is none. Tried: `get_mut`; the proof did not close, since nothing ties the list behind the call to the entry.
 fn store(list: &mut [i64], at: usize, value: i64)
     ensures { list.new ≡ set list.old at value }
 {
@@ -205,15 +158,14 @@ fn store(list: &mut [i64], at: usize, value: i64)
     }
 }
 
-// The lines of a pass: whether all are coefficient lines, whether all their counts are entries, and how many they are.
-#[derive(Clone, Copy)]
+// The lines of a pass: how many they are, and whether all their counts are entries.
+#[derive(Clone, Copy, Debug, PartialEq, Eq)]
 pub struct Lines {
-    pub ok: bool,
     pub inside: bool,
     pub count: usize,
 }
 
-// One line more, which starts at a place of its text.
+// One line more, which starts at a place of its text. The lists go one by one, as read_lines is lent them.
 fn keep_line(
     line: &[u8],
     at: usize,
@@ -222,50 +174,36 @@ fn keep_line(
     starts: &mut [u32],
     c: &mut [i64],
     s: &mut [i64],
-) -> Lines
+) -> Option<Lines>
     requires line_len_bound_1 { length line.now ≤ 131072 }
     requires line_len_bound_2 { at ≤ 131072 }
     requires line_len_bound_3 { is_whole degree.now ≡ true }
     requires count_in_bounds_1 { before.count < length starts.old }
     requires count_in_bounds_2 { length c.old ≤ 1891 }
     requires count_in_bounds_3 { length s.old ≤ 1891 }
-    ensures { LineKept (value_of degree.now) line.now at before.inside before.count starts.old c.old s.old result.ok result.inside result.count starts.new c.new s.new }
+    ensures { LineKept (value_of degree.now) line.now at before starts.old c.old s.old result starts.new c.new s.new }
 {
-    let k = line_of(line, degree);
-    let count = before.count;
-    if k.ok {
-        starts[count] = at as u32;
-        if before.inside & k.inside {
-            store(c, k.place, k.c);
-            store(s, k.place, k.s);
-            return Lines {
-                ok: true,
+    let kept = line_of(line, degree)?;
+    starts[before.count] = at as u32;
+    let count = before.count + 1;
+    match kept.counts {
+        Some((x, y)) if before.inside => {
+            store(c, kept.place, x);
+            store(s, kept.place, y);
+            Some(Lines {
                 inside: true,
-                count: count + 1,
-            };
+                count,
+            })
         }
-        return Lines {
-            ok: true,
+        _ => Some(Lines {
             inside: false,
-            count: count + 1,
-        };
-    }
-    Lines {
-        ok: false,
-        inside: false,
-        count: 0,
+            count,
+        }),
     }
 }
 
-fn is_worded(line: &[u8]) -> bool
-    ensures { result ≡ ltb 0 (length (words line.now)) }
-{
-    let word = icgem_words::next_word(line, 0);
-    word.from < word.to
-}
-
-// Reads the coefficient lines from a place on: where each starts, and its counts into the two lists of a field. A formed line has
-// five words, the first of three bytes, and a line end, so eight bytes.
+// Reads the coefficient lines from a place on: where each starts, and its counts into the two lists of a field. None where a line with
+// a word is no coefficient line. A formed line has five words, the first of three bytes, and a line end, so eight bytes.
 pub fn read_lines(
     text: &[u8],
     from: usize,
@@ -273,35 +211,30 @@ pub fn read_lines(
     starts: &mut [u32],
     c: &mut [i64],
     s: &mut [i64],
-) -> Lines
+) -> Option<Lines>
     requires text_len_bound_1 { length text.now ≤ 131072 }
     requires text_len_bound_2 { from ≤ length text.now }
     requires text_len_bound_3 { is_whole degree.now ≡ true }
     requires in_bounds_1 { 16384 ≤ length starts.old }
     requires in_bounds_2 { length c.old ≤ 1891 }
     requires in_bounds_3 { length s.old ≤ 1891 }
-    ensures { LinesRead text.now from (value_of degree.now) starts.old c.old s.old result.ok result.inside result.count starts.new c.new s.new }
+    ensures { LinesRead text.now from (value_of degree.now) starts.old c.old s.old result starts.new c.new s.new }
 {
     let mut lines = Lines {
-        ok: true,
         inside: true,
         count: 0,
     };
     let mut at = from;
+    // A line's end gives the next one's place, and `split` gives no places.
     while at < text.len() {
+        let start = at;
         let end = icgem_words::line_end(text, at);
-        let line = &text[at..end];
-        let next = end + 1;
-        if is_worded(line) {
-            lines = keep_line(line, at, degree, lines, starts, c, s);
-            if lines.ok {
-                at = next;
-            } else {
-                return lines;
-            }
-        } else {
-            at = next;
+        let line = &text[start..end];
+        at = end + 1;
+        if icgem_words::next_word(line, 0).is_empty() {
+            continue;
         }
+        lines = keep_line(line, start, degree, lines, starts, c, s)?;
     }
-    lines
+    Some(lines)
 }

@@ -87,7 +87,7 @@ impl<'a> Numeral<'a> {
         }
     }
 
-    // The number of the first digits.
+    // The number of the first digits, by their places, since they lie in two texts.
     fn first(self, count: usize) -> Option<u64>
         requires { count ≤ length self.whole.now + length self.fraction.now }
         ensures { Held result (value_of (take count (self.entry.whole.now ++ self.entry.fraction.now))) }
@@ -231,7 +231,7 @@ fn exponent_of(word: &[u8]) -> Option<Exponent>
 }
 
 // The digits before a word's letter, with a dot or none among them.
-fn numeral_of(word: &[u8]) -> Option<Numeral>
+fn numeral_of(word: &[u8]) -> Option<Numeral<'_>>
     ensures mantissa { is_mantissa word.now ≡ is_some result }
     ensures parts { IfSome result (λ d. (d.whole.now ≡ before is_dot (mantissa word.now)) × (d.fraction.now ≡ after is_dot (mantissa word.now))) }
 {

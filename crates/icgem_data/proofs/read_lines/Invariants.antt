@@ -6,8 +6,7 @@ use Rattle.icgem_data.proofs.Pass.{Passed}
 use Rattle.icgem_data.proofs.read_lines.Given as goal
 
 abbrev pub invariant-loop-at : goal.invariant-loop-at
-invariant-loop-at l =
-    Passed l.text l.from (value_of l.degree) l.at l.lines.ok l.lines.inside l.lines.count l.initial.starts l.starts l.initial.c l.initial.s l.c l.s
+invariant-loop-at l = Passed l.text l.from (value_of l.degree) l.at l.lines l.initial.starts l.starts l.initial.c l.initial.s l.c l.s
 
 abbrev pub decreases-loop-at : goal.decreases-loop-at
 decreases-loop-at l = length l.text + 1 - l.at
