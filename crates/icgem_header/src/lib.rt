@@ -67,6 +67,7 @@ fn find_line<'a>(text: &'a [u8], key: &[u8]) -> Option<Cut<'a>>
     ensures { LineFound key.now text.now result }
 {
     let mut at = 0;
+    // A step is a line, whose length is not known before.
     while at < text.len() {
         let end = icgem_words::line_end(text, at);
         let line = &text[at..end];

@@ -45,8 +45,9 @@ fn read_data(
 {
     let mut starts = [0u32; LINES];
     let mut spare = [0u32; LINES];
-    let lines = icgem_data::read_lines(text, 0, degree, &mut starts, c, s)
-        .ok_or(Refusal::FileForm)?;
+    let lines = icgem_data::read_lines(text, 0, degree, &mut starts, c, s).ok_or(
+        Refusal::FileForm,
+    )?;
     if icgem_repeats::repeats(text, &mut starts[..lines.count], &mut spare) {
         return Err(Refusal::TwinPlaces);
     }
