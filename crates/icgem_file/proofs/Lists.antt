@@ -1,10 +1,9 @@
 -- The lists that a file's lines fill: a shorter list is filled as the front of a longer one.
 use mathlib.Core.Path.{◌≡◌, refl, ap, ◌∙◌}
 use mathlib.Core.List.{List, [], ◌∷◌}
-use Prim.Native.Nat.{ℕ, zero, suc, ◌≤◌}
-use native.Mathlib.Nat.{le_of_suc-le-suc, not-suc-le-zero}
+use Prim.Native.Nat.{ℕ, zero, suc}
 use lib.IntN.{ℤ}
-use lib.ListN.{take, set, replicate}
+use lib.ListN.{take, set}
 use Rattle.field.specs.Field.{place}
 use Rattle.icgem_file.specs.Header.{Line}
 use Rattle.icgem_file.specs.Data.{degree_in, order_in, filled}
@@ -23,8 +22,3 @@ filled_take count [] k l = refl
 filled_take count (line ∷ others) k l =
     filled_take count others k (set l (place (degree_in line) (order_in line)) (count line))
     ∙ ap (filled count others) (take_set k l (place (degree_in line) (order_in line)) (count line))
-
-pub take_replicate : (k n : ℕ) (v : ℤ) → k ≤ n → take k (replicate n v) ≡ replicate k v
-take_replicate zero n v h = refl
-take_replicate (suc k) zero v h = absurd (not-suc-le-zero h)
-take_replicate (suc k) (suc n) v h = ap (λ (r : List ℤ). v ∷ r) (take_replicate k n v (le_of_suc-le-suc h))

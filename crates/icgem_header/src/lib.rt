@@ -11,6 +11,7 @@ ghost use Rattle.icgem_header.specs.Inner.{LineFound, LineSingle, EntryRead, Req
 ghost use Rattle.icgem_header.specs.Read.{tells_system, HeaderRead};
 
 use choices::PermanentSystem;
+use icgem_decimal::{Decimal, WholeError};
 use refusals::Refusal;
 
 // A header that is not as it should be.
@@ -66,6 +67,7 @@ fn find_line<'a>(text: &'a [u8], key: &[u8]) -> Option<Cut<'a>>
     ensures { LineFound key.now text.now result }
 {
     let mut at = 0;
+    // A step is a line, whose length is not known before.
     while at < text.len() {
         let end = icgem_words::line_end(text, at);
         let line = &text[at..end];
@@ -114,7 +116,8 @@ fn entry_of<'a>(entries: &'a [u8], key: &[u8]) -> Result<Option<&'a [u8]>, Malfo
     requires { 0 < length key.now }
     ensures { EntryRead key.now entries.now result }
 {
-    match single_line(entries, key)? {
+    let line = single_line(entries, key)?;
+    match line {
         None => Ok(None),
         Some(cut) => Ok(Some(second_word(cut.line).ok_or(Malformed)?)),
     }
@@ -147,18 +150,17 @@ fn constant_of(word: &[u8], places: usize) -> Result<u64, Malformed>
     requires word_most { length word.now ≤ 131072 }
     ensures { ConstantTaken places word.now result }
 {
-    let n = icgem_decimal::in_units(word, places);
-    if n.ok & (!(n.negative & (0 < n.size)) & !n.over) {
-        Ok(n.size)
-    } else {
-        Err(Malformed)
-    }
+    let Decimal { negative, size } = icgem_decimal::in_units(word, places).ok_or(Malformed)?;
+    let size = size.ok_or(Malformed)?;
+    let below_zero = negative & (0 < size);
+    if below_zero { Err(Malformed) } else { Ok(size) }
 }
 
+// One of any size.
 fn is_whole(word: &[u8]) -> bool
     ensures { result ≡ is_whole word.now }
 {
-    icgem_decimal::whole_number(word).ok
+    !matches!(icgem_decimal::whole_number(word), Err(WholeError::NotWhole))
 }
 
 fn numbers_of(entries: &[u8]) -> Result<Numbers, Malformed>
@@ -223,9 +225,10 @@ fn system_in(entries: &[u8]) -> Result<Option<PermanentSystem>, Malformed>
 fn entries_in(head: &[u8]) -> Result<&[u8], Malformed>
     ensures { EntriesFound head.now result }
 {
-    match single_line(head, b"begin_of_head")? {
+    let begin = single_line(head, b"begin_of_head")?;
+    match begin {
         None => Ok(head),
-        Some(begin) => Ok(begin.after),
+        Some(cut) => Ok(cut.after),
     }
 }
 

@@ -23,7 +23,8 @@ use Rattle.icgem_file.specs.declared.FileHead.{FileHead}
 use Rattle.icgem_file.specs.Header.{Line, data_of}
 use Rattle.icgem_file.specs.Data.{c_in, s_in, filled}
 use Rattle.icgem_file.specs.File.{file_refusal, read_refusal, file_list, told_head, file_head, read_file}
-use Rattle.icgem_file.proofs.Lists.{filled_take, take_replicate}
+use Rattle.std.proofs.lemmas.List.{take-replicate}
+use Rattle.icgem_file.proofs.Lists.{filled_take}
 use Rattle.icgem_words.specs.Words.{worded}
 use Rattle.icgem_read.specs.Inner.{Passed, FilePassed}
 use Rattle.icgem_read.specs.Told.{Reads}
@@ -93,7 +94,7 @@ module _ (text : List ℕ) (c s : List ℤ) where
       unfolding file_list
       front count k e =
           filled_take count (data_of (worded text)) k zeros
-          ∙ ap (filled count (data_of (worded text))) (take_replicate k 1891 (pos 0) (omega (arith, size_most head.degree fits.0)) ∙ ap (λ (j : ℕ). replicate j (pos 0)) (e ∙ ap size p.degree_is))
+          ∙ ap (filled count (data_of (worded text))) (take-replicate k 1891 (pos 0) (omega (arith, size_most head.degree fits.0)) ∙ ap (λ (j : ℕ). replicate j (pos 0)) (e ∙ ap size p.degree_is))
 
       pub reads_accepted : {c'' s'' : List ℤ} → c'' ≡ take (length c) new-c → s'' ≡ take (length s) new-s → Reads (read_file text c s) (accepted head) c'' s''
       unfolding read_file told_head

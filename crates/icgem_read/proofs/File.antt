@@ -1,5 +1,5 @@
 -- A file whose header is as it should be, from its data and its system.
-use mathlib.Core.Bool.{Bool, true, false, cond, ◌&&◌}
+use mathlib.Core.Bool.{true}
 use mathlib.Core.Path.{◌≡◌, refl, sym, ap, ap₂, ◌∙◌}
 use mathlib.Core.List.{List}
 use Prim.Native.Nat.{ℕ, ◌-◌, ◌≤◌}
@@ -7,22 +7,19 @@ use native.Mathlib.Omega.{arith}
 use lib.IntN.{ℤ}
 use lib.ListN.{length, length-drop}
 use Rattle.std.specs.Prelude.{Option, Some, None, Result, Ok, Err, IsErrAnd, MatchResult, ok_or}
-use Rattle.whole.proofs.Tests.{and_left}
 use Rattle.choices.specs.declared.PermanentSystem.{PermanentSystem}
-use Rattle.limits.specs.Limits.{is_degree}
 use Rattle.refusals.specs.declared.Refusal.{Refusal}
 use Rattle.refusals.specs.Outcome.{first_of}
 use Rattle.refusals.specs.Told.{told_number}
 use Rattle.refusals.specs.Told.Told.{accepted}
-use Rattle.refusals.proofs.Outcomes.{first_none, first_kept, first_passed}
+use Rattle.refusals.proofs.Outcomes.{first_kept, first_passed}
 use Rattle.icgem_decimal.specs.Decimal.{is_whole, value_of}
-use Rattle.icgem_file.specs.Header.{Line, degree_of, system_word}
-use Rattle.icgem_file.specs.Data.{data_formed, repeated, all_in_range}
+use Rattle.icgem_file.specs.Header.{degree_of, system_word}
 use Rattle.icgem_file.specs.File.{system_said, file_refusal, head_said}
 use Rattle.icgem_header.specs.declared.Header.{Header}
 use Rattle.icgem_header.specs.Read.{HeaderIs, tells_system}
 use Rattle.icgem_words.specs.Words.{worded}
-use Rattle.icgem_read.specs.Inner.{DegreeRead, data_refusal, Filled, Passed}
+use Rattle.icgem_read.specs.Inner.{data_refusal, Filled, Passed}
 use Rattle.icgem_read.proofs.Refusals.{file_headed}
 
 -- what holds of each error that a result can be holds of it
@@ -34,15 +31,6 @@ by_err (Err why) P R q f = f why q
 pub refused_by : {T : Type 0} (value : Option T) (why other : Refusal) → ◌≡◌ {A = Result T Refusal} (Err why) (ok_or value other) → (value ≡ None) × (why ≡ other)
 refused_by None why other e = (refl, cc)
 refused_by (Some x) why other e = absurd cc
-
--- data that nothing refuses have a degree
-fine_degree : (n : ℕ) (lines : List Line) → data_refusal n lines ≡ 0 → is_degree n ≡ true
-unfolding data_refusal
-fine_degree n lines e = and_left (is_degree n) (all_in_range lines) (by_test (is_degree n && all_in_range lines) (first_none (cond (repeated lines) 18 0) _ (first_none (cond (data_formed n lines) 0 17) _ e).1).1)
-  where
-    by_test : (b : Bool) → ◌≡◌ {A = ℕ} (cond b 0 19) 0 → b ≡ true
-    by_test true z = refl
-    by_test false z = absurd (omega (arith, z))
 
 module _ {text : List ℕ} {header : Header} (head : HeaderIs text header) (h : length text ≤ 131072) where
   pub data_short : length header.data.now ≤ 131072
@@ -66,13 +54,13 @@ module _ {text : List ℕ} {header : Header} (head : HeaderIs text header) (h : 
     pub systemless : header.system ≡ None → file_refusal text ≡ 20
     systemless e = refusal_is z ∙ first_passed 0 _ refl ∙ ap told_number (sym head.system_is ∙ ap tells_system e)
 
-    pub passed : {c s c' s' : List ℤ} {system : PermanentSystem} {degree : ℕ} → Filled (worded header.data.now) c s c' s' → header.system ≡ Some system
-        → DegreeRead header.degree.now degree
+    pub passed : {c s c' s' : List ℤ} {system : PermanentSystem} {degree : ℕ} → degree ≡ value_of header.degree.now → Filled (worded header.data.now) c s c' s'
+        → header.system ≡ Some system
         → Passed text c s (record { degree = degree; constant = header.constant; radius = header.radius; system = system }) c' s'
     unfolding head_said
-    passed {system} filled e taken =
+    passed {system} taken filled e =
         let said : system_said (system_word (worded text)) ≡ accepted system = sym head.system_is ∙ ap tells_system e in
-        let n = taken.value_is (taken.degree_is ∙ fine_degree _ _ z) ∙ degree_is in
+        let n = taken ∙ degree_is in
         record {
           none = refusal_is z ∙ first_passed 0 _ refl ∙ ap told_number said;
           head_is = rw (said, n, head.constant_is, head.radius_is) refl;

@@ -1,4 +1,3 @@
-pub mod Degrees
 pub mod Refusals
 pub mod Sound
 pub mod Lines

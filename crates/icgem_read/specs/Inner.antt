@@ -1,21 +1,19 @@
 -- Inner contracts, no words of 02: what the functions that read a file say to one another.
-use Rattle.std.specs.Prelude.{true, cond, ◌&&◌, List, ◌≡◌, ℕ, ℤ, Result, MatchResult}
+use Rattle.std.specs.Prelude.{true, false, cond, ◌&&◌, List, ◌≡◌, ℕ, ℤ, Option, MatchOption, Result, MatchResult}
 use Rattle.limits.specs.Limits.{is_degree}
 use Rattle.refusals.specs.declared.Refusal.{Refusal}
 use Rattle.refusals.specs.Numbers.{refusal_number}
 use Rattle.refusals.specs.Outcome.{first_of}
 use Rattle.refusals.specs.Told.Told.{accepted}
-use Rattle.icgem_decimal.specs.Decimal.{value_of}
 use Rattle.icgem_file.specs.declared.FileHead.{FileHead}
 use Rattle.icgem_file.specs.Header.{Line, data_of, degree_of}
 use Rattle.icgem_file.specs.Data.{c_in, s_in, data_formed, repeated, all_in_range, filled}
 use Rattle.icgem_file.specs.File.{file_refusal, head_said}
 use Rattle.icgem_words.specs.Words.{worded}
 
--- a degree of the file, or a number that is none
-pub record DegreeRead (word : List ℕ) (n : ℕ) : Type 0 where
-  pub degree_is : is_degree n ≡ is_degree (value_of word)
-  pub value_is : is_degree n ≡ true → n ≡ value_of word
+-- a file's degree, where a field can have it
+abbrev pub DegreeRead : ℕ → Option ℕ → Type 0
+DegreeRead n result = MatchOption result (is_degree n ≡ false) (λ degree. (is_degree n ≡ true) × (degree ≡ n))
 
 -- the refusals that a file's data give
 unfoldable pub data_refusal : ℕ → List Line → ℕ
@@ -26,10 +24,10 @@ pub record Filled (lines : List Line) (c s c' s' : List ℤ) : Type 0 where
   pub c_is : c' ≡ filled c_in lines c
   pub s_is : s' ≡ filled s_in lines s
 
-abbrev pub DataRead : ℕ → List Line → List ℤ → List ℤ → Result Unit Refusal → List ℤ → List ℤ → Type 0
+abbrev pub DataRead : ℕ → List Line → List ℤ → List ℤ → Result ℕ Refusal → List ℤ → List ℤ → Type 0
 DataRead n lines c s result c' s' =
     MatchResult result
-    (λ done. (data_refusal n lines ≡ 0) × Filled lines c s c' s')
+    (λ degree. (data_refusal n lines ≡ 0) × ((degree ≡ n) × Filled lines c s c' s'))
     (λ why. data_refusal n lines ≡ refusal_number why)
 
 -- a file gone through: what it says where nothing refuses it

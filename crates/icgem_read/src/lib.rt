@@ -22,41 +22,38 @@ const ENTRIES: usize = 1891;
 // The coefficient lines that a file has at most, of eight bytes each.
 const LINES: usize = 16384;
 
-// The degree that a word writes, or 61 where it is larger.
-fn degree_of(word: &[u8]) -> u32
+// The degree that a word writes, where it is one of a field.
+fn degree_of(word: &[u8]) -> Option<u32>
     requires { is_whole word.now ≡ true }
-    ensures { DegreeRead word.now result }
+    ensures { DegreeRead (value_of word.now) result }
 {
-    let number = icgem_decimal::whole_number(word);
-    if number.over | (60 < number.value) {
-        61
-    } else {
-        number.value as u32
-    }
+    let number = icgem_decimal::whole_number(word).ok()?;
+    let degree = u32::try_from(number).ok()?;
+    limits::is_degree(degree).then_some(degree)
 }
 
-// The coefficient lines: 17, 18, 19, and their counts in two lists.
+// The degree, and the coefficient lines' counts in two lists: 17, 18, 19.
 fn read_data(
-    data: &[u8],
+    text: &[u8],
     degree: &[u8],
     c: &mut [i64; ENTRIES],
     s: &mut [i64; ENTRIES],
-) -> Result<(), Refusal>
-    requires data_short { length data.now ≤ 131072 }
+) -> Result<u32, Refusal>
+    requires text_short { length text.now ≤ 131072 }
     requires degree_whole { is_whole degree.now ≡ true }
-    ensures { DataRead (value_of degree.now) (worded data.now) c.old s.old result c.new s.new }
+    ensures { DataRead (value_of degree.now) (worded text.now) c.old s.old result c.new s.new }
 {
     let mut starts = [0u32; LINES];
     let mut spare = [0u32; LINES];
-    let lines = icgem_data::read_lines(data, 0, degree, &mut starts, c, s);
-    if !lines.ok {
-        return Err(Refusal::FileForm);
-    }
-    if icgem_repeats::repeats(data, &mut starts[..lines.count], &mut spare) {
+    let lines = icgem_data::read_lines(text, 0, degree, &mut starts, c, s).ok_or(
+        Refusal::FileForm,
+    )?;
+    if icgem_repeats::repeats(text, &mut starts[..lines.count], &mut spare) {
         return Err(Refusal::TwinPlaces);
     }
-    if limits::is_degree(degree_of(degree)) && lines.inside {
-        Ok(())
+    let degree = degree_of(degree).ok_or(Refusal::FileRange)?;
+    if lines.inside {
+        Ok(degree)
     } else {
         Err(Refusal::FileRange)
     }
@@ -70,10 +67,10 @@ fn pass(text: &[u8], c: &mut [i64; ENTRIES], s: &mut [i64; ENTRIES]) -> Result<F
         return Err(Refusal::FileForm);
     }
     let header = icgem_header::header_of(text)?;
-    read_data(header.data, header.degree, c, s)?;
+    let degree = read_data(header.data, header.degree, c, s)?;
     let system = header.system.ok_or(Refusal::NoSuchSystem)?;
     Ok(FileHead {
-        degree: degree_of(header.degree),
+        degree,
         constant: header.constant,
         radius: header.radius,
         system,
