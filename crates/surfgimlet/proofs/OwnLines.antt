@@ -1,6 +1,6 @@
 -- What a list's sums tell: accepted, they are the definition's, so their nearest are its corrections; refused, the list's number is the call's where the
 -- field passes.
-use mathlib.Core.Path.{◌≡◌, refl, sym, ap, ap₂, subst, ◌∙◌}
+use mathlib.Core.Path.{◌≡◌, sym, ap, ap₂, subst, ◌∙◌}
 use mathlib.Core.List.{List}
 use Prim.Native.Nat.{ℕ}
 use lib.IntN.{ℤ}
