@@ -1,12 +1,10 @@
 -- What is told goes to the lent memory, and what is written too; a number that names no case is answered by 100, and nothing has changed.
-use Rattle.std.proofs.Common.{◌≡◌, ℕ, List, ℤ, Bool, true, false, ◌&&◌, ap, subst}
+use Rattle.std.proofs.Common.{◌≡◌, ℕ, List, ℤ, true, false, ◌&&◌, ap, subst}
 use Rattle.choices.specs.Numbers.{chosen, love_model, permanent_system, names, Converts}
 use Rattle.choices.specs.declared.PermanentSystem.{PermanentSystem}
 use Rattle.choices.proofs.Choices.{hundred, one_named, one_missing, three_missing}
 use Rattle.crossing.specs.Bodies.{body_of}
 use Rattle.crossing.specs.declared.GivenBody.{GivenBody}
-use Rattle.bodies.specs.declared.Body.{Body}
-use Rattle.choices.specs.declared.LoveModel.{LoveModel}
 use Rattle.hour.specs.declared.Hour.{Hour}
 use Rattle.permanent.specs.Systems.{moved_c20}
 use Rattle.surfgimlet.specs.Calls.{solid_tide}

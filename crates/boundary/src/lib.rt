@@ -40,6 +40,7 @@ pub extern "C" fn surfgimlet_version() -> u32
 }
 
 // Solid tide. Refused: 100, then as surfgimlet::solid_tide.
+#[tactic(auto, using(crate::proofs::Given::told_and_left), unfolding(crate::specs::Calls::solid_given, refusals::specs::Outcome::told_unless))]
 #[unsafe(no_mangle)]
 pub extern "C" fn surfgimlet_solid_tide(
     n: u32,
@@ -132,6 +133,7 @@ pub extern "C" fn surfgimlet_own_lines(
 }
 
 // The solid pole tide. Refused: 100, then as surfgimlet::pole_tide.
+#[tactic(auto, unfolding(crate::specs::Calls::pole_given))]
 #[unsafe(no_mangle)]
 pub extern "C" fn surfgimlet_pole_tide(
     n: u32,
@@ -150,6 +152,7 @@ pub extern "C" fn surfgimlet_pole_tide(
 }
 
 // The ocean tide of a model sheet. Refused: 100, then as surfgimlet::ocean_tide.
+#[tactic(auto, unfolding(crate::specs::Calls::ocean_given))]
 #[unsafe(no_mangle)]
 pub extern "C" fn surfgimlet_ocean_tide(
     n: u32,
@@ -168,6 +171,7 @@ pub extern "C" fn surfgimlet_ocean_tide(
 }
 
 // One C20 to another permanent system. Refused: 100, then as surfgimlet::move_c20.
+#[tactic(auto, unfolding(crate::specs::Calls::move_given))]
 #[unsafe(no_mangle)]
 pub extern "C" fn surfgimlet_move_c20(
     c20: i64,
@@ -201,7 +205,13 @@ pub extern "C" fn surfgimlet_file_head(
 ) -> u32
     ensures { Leaves (numbers_of (file_head text.now)) (head_numbers degree.old constant.old radius.old system.old) result (head_numbers degree.new constant.new radius.new system.new) }
 {
-    leaving::leave_head(surfgimlet::file_head(text), degree, constant, radius, system)
+    leaving::leave_head(
+        surfgimlet::file_head(text),
+        degree,
+        constant,
+        radius,
+        system,
+    )
 }
 
 // A file read. Refused as surfgimlet::read_field.
@@ -222,6 +232,7 @@ pub extern "C" fn surfgimlet_read_field(
 }
 
 // A field written as text. Refused: 100, then as surfgimlet::write_field.
+#[tactic(auto, using(crate::proofs::Given::writes_and_leaves), unfolding(crate::specs::Calls::write_given, refusals::specs::Outcome::told_unless))]
 #[unsafe(no_mangle)]
 pub extern "C" fn surfgimlet_write_field(
     n: u32,

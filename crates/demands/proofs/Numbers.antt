@@ -16,7 +16,8 @@ use Rattle.choices.specs.declared.PermanentSystem.{PermanentSystem}
 use Rattle.doodson.specs.Doodson.{writable, read_doodson, write_doodson}
 use Rattle.field.specs.Field.{shaped, every_in_range, field_refusal}
 use Rattle.limits.specs.Limits.{is_doodson, is_entry, is_selection, is_pole_offset}
-use Rattle.lines.specs.Lines.{Printed, Found, nowhere, printed, line_at, sought_from, find_line}
+use Rattle.lines.specs.declared.Found.{Found}
+use Rattle.lines.specs.Lines.{Printed, nowhere, printed, line_at, sought_from, find_line}
 use Rattle.permanent.specs.Systems.{moved_c20}
 use Rattle.pole.specs.Pole.{offsets_refusal}
 use Rattle.pole.proofs.Offsets.{within_an_arcsecond}

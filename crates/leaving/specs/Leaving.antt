@@ -4,7 +4,7 @@ use Rattle.arguments.specs.declared.Multipliers.{Multipliers}
 use Rattle.arguments.specs.Phase.{listed}
 use Rattle.choices.specs.Numbers.{system_number}
 use Rattle.icgem_file.specs.declared.FileHead.{FileHead}
-use Rattle.lines.specs.Lines.{Found}
+use Rattle.lines.specs.declared.Found.{Found}
 use Rattle.refusals.specs.Outcome.{Outcome, told_unless}
 use Rattle.refusals.specs.Told.{Told, told_number, next}
 use Rattle.refusals.specs.Told.Told.{accepted, refused}
