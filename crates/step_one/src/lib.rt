@@ -48,11 +48,18 @@ fn counts_s(xs: [f64; 10]) -> [i64; 10]
     requires { T (all_countable xs) }
     ensures { result ≡ counts_s xs }
 {
-    let mut out = counts_c(xs);
-    out[0] = 0;
-    out[3] = 0;
-    out[7] = 0;
-    out
+    [
+        0,
+        nearest_count(xs[1]),
+        nearest_count(xs[2]),
+        0,
+        nearest_count(xs[4]),
+        nearest_count(xs[5]),
+        nearest_count(xs[6]),
+        0,
+        nearest_count(xs[8]),
+        nearest_count(xs[9]),
+    ]
 }
 
 // The counts of C with the permanent part taken off C20.
