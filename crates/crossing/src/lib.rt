@@ -10,6 +10,7 @@ use bodies::{Body, Place};
 use choices::NoSuchChoice;
 
 // Kind 0: x, y, z in metres; kind 1: a direction's u, v, w. The distance r is in metres, the ratio the mass to the Earth's.
+// The kind is a number and no enum, since C lends the struct as it stands.
 #[repr(C)]
 #[derive(Clone, Copy, Debug)]
 pub struct GivenBody {
