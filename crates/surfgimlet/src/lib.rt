@@ -1,6 +1,7 @@
 // Surfgimlet: tide corrections to the coefficients of a gravity field, and the permanent tide of C20. These are all its calls.
 // A field of degree n is two lent lists of counts of 10^-15, C and S, of (n+1)(n+2)/2 entries, place (n,m) at n(n+1)/2+m.
-// Its degree and its lists come one by one, as C lends them. A call over a field tests, works out and adds. It answers Ok, or the Refusal with every entry of both lists as it was.
+// The degree and the lists come one by one, as C lends them.
+// A call over a field tests, works out and adds. It answers Ok, or the Refusal with every entry of both lists as it was.
 
 #![tactic(auto)]
 
