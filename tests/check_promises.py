@@ -1,7 +1,8 @@
 """Holds docs/PROMISES.md to the files: each name in its tables exists, and each must-fail edit is cited there; and docs/DECISIONS.md names each edit
 that changes a definition and not the code.
 
-A name stands in backquotes: `x.specs.Y`, `x.proofs.Y` and `x.specs.Y.name`; `x::f`, `x::T` of a type and `x::T::f` of its method; `x/slip`. A bare name belongs to what stands before it in
+A name stands in backquotes: `x.specs.Y`, `x.proofs.Y` and `x.specs.Y.name`; `x::f`, `x::T` of a type and `x::T::f` of a function in an `impl` of it;
+`x/slip`. A bare name belongs to what stands before it in
 its cell: to the module, the crate or the edit's crate named last. Where the cell names none, it is a crate or is declared in some specs file.
 `..end` stands for every name with that end. Exits 1 with a line for each name that is not there and each edit that is not cited.
 """
@@ -29,6 +30,13 @@ def functions(crate):
     """The functions of a crate, its methods and types among them."""
     texts = [path.read_text(encoding='utf-8') for path in (CRATES / crate / 'src').rglob('*.rt')]
     return {name for text in texts for pattern in (FUNCTION, TYPE) for name in pattern.findall(text)}
+
+
+def methods(crate, kind):
+    """The functions in the blocks `impl KIND` of a crate."""
+    texts = [path.read_text(encoding='utf-8') for path in (CRATES / crate / 'src').rglob('*.rt')]
+    blocks = [block for text in texts for block in re.findall(rf'^impl(?:<[^>]*>)? {kind}\b[^\n]*\n(.*?)^}}', text, re.M | re.S)]
+    return {name for block in blocks for name in FUNCTION.findall(block)}
 
 
 def edits():
@@ -73,7 +81,9 @@ class Cell:
         if re.fullmatch(r'\w+(::\w+){1,2}', name):
             crate, *parts = name.split('::')
             self.crate = crate
-            return (CRATES / crate).is_dir() and functions(crate).issuperset(parts)
+            if not (CRATES / crate).is_dir() or parts[0] not in functions(crate):
+                return False
+            return len(parts) == 1 or parts[1] in methods(crate, parts[0])
         if re.match(r'\w+\.(specs|proofs)\b', name):
             there = module(name)
             if there is None:
