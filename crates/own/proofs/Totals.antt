@@ -1,6 +1,6 @@
 -- The first records of a list that is not too long: where each is in range their sums are the definition's, and 64 of them have room; at the first that is
 -- not, the list is refused with 13.
-use Rattle.std.proofs.Common.{◌≡◌, ℕ, zero, suc, cond, ◌+◌, ◌≤◌, ◌<◌, Bool, true, false, List, length, ℤ, pos, Result, Ok, Err, refl, sym, ◌∙◌, arith, add-one}
+use Rattle.std.proofs.Common.{◌≡◌, ℕ, zero, suc, cond, ◌+◌, ◌≤◌, ◌<◌, Bool, true, false, List, length, ℤ, pos, Result, Ok, Err, refl, sym, subst, ◌∙◌, arith, add-one}
 use borrow.Author.Tests.{leb-true}
 use Rattle.arguments.specs.declared.Phases.{Phases}
 use Rattle.bands.specs.declared.Line.{Line}
@@ -10,7 +10,7 @@ use Rattle.bands.specs.Inner.{Light, Bounded, sums_of}
 use Rattle.bands.proofs.Sizes.{sum-small, sums_next, bounded}
 use Rattle.limits.specs.Limits.{is_record_count}
 use Rattle.refusals.specs.declared.Refusal.{Refusal}
-use Rattle.refusals.specs.declared.Refusal.TheVariants.{RecordValue}
+use Rattle.refusals.specs.declared.Refusal.TheVariants.{RecordCount, RecordValue}
 use Rattle.refusals.specs.Numbers.{refusal_number}
 use Rattle.wave.specs.Wave.{sin, cos}
 use Rattle.wave.proofs.Size.{sin_size, cos_size}
@@ -115,11 +115,18 @@ module _ (phases : Phases) (l : List OwnLine) (few : is_record_count (length l) 
   state zero h = rw few (none_read phases l)
   state (suc i) h = step i (omega arith) (summed_to phases l i) (state i (omega arith))
 
+  -- so after the first i of them the sums are the definition's, or the number is
+  pub so_far : (i : ℕ) → i ≤ length l → (sums : Sums) → summed_to phases l i ≡ Ok sums → SoFar phases l i sums
+  so_far i h sums e = subst (State i) e (state i h)
+
+  pub refused_at : (i : ℕ) → i ≤ length l → (why : Refusal) → summed_to phases l i ≡ Err why → refusal_number why ≡ records_refusal l
+  refused_at i h why e = subst (State i) e (state i h)
+
 too_many : (l : List OwnLine) → is_record_count (length l) ≡ false → 12 ≡ records_refusal l
 unfolding records_refusal
 too_many l many = rw many refl
 
--- so the sums of a whole list, or its refusal, are the definition's
+-- and so of a whole list
 pub totals : (phases : Phases) (l : List OwnLine) → Totals phases l (summed_to phases l (cond (is_record_count (length l)) (length l) 0))
 unfolding summed_to
 totals phases l = by_test (is_record_count (length l)) refl
@@ -131,3 +138,26 @@ totals phases l = by_test (is_record_count (length l)) refl
     by_test : (b : Bool) → is_record_count (length l) ≡ b → Totals phases l (summed_to phases l (cond b (length l) 0))
     by_test true few = by_state few (summed_to phases l (length l)) (state phases l few (length l) (omega arith))
     by_test false many = rw many (too_many l many)
+
+-- the first record, and one record more
+pub none_taken : (phases : Phases) (l : List OwnLine) → is_record_count (length l) ≡ true
+    → summed_to phases l 0 ≡ Ok (record { c20 = pos 0; c21 = pos 0; s21 = pos 0; c22 = pos 0; s22 = pos 0 })
+unfolding summed_to
+none_taken phases l few = rw few refl
+
+pub one_taken : (phases : Phases) (l : List OwnLine) (i : ℕ) (sums : Sums) (r : Result Sums Refusal) → summed_to phases l i ≡ Ok sums
+    → with_record phases sums (record_at l i) ≡ r → summed_to phases l (i + 1) ≡ r
+unfolding summed_to
+one_taken phases l i sums r e f = rw (add-one, e) f
+
+-- all of them, and none of too many
+pub all_taken : (phases : Phases) (l : List OwnLine) (sums : Sums) → is_record_count (length l) ≡ true → summed_to phases l (length l) ≡ Ok sums
+    → Totals phases l (Ok sums)
+all_taken phases l sums few e = subst (Totals phases l) e (rw few at (totals phases l))
+
+none_begun : (phases : Phases) (l : List OwnLine) → is_record_count (length l) ≡ false → summed_to phases l 0 ≡ Err RecordCount
+unfolding summed_to
+none_begun phases l many = rw many refl
+
+pub none_of_many : (phases : Phases) (l : List OwnLine) → is_record_count (length l) ≡ false → Totals phases l (Err RecordCount)
+none_of_many phases l many = subst (Totals phases l) (none_begun phases l many) (rw many at (totals phases l))
