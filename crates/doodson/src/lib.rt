@@ -3,7 +3,7 @@
 #![tactic(auto)]
 
 ghost use Rattle.std.specs.Prelude.{◌≡◌, true, ◌+◌, ◌*◌, ◌≤◌, pos, nat_abs, ◌+ℤ◌, ◌-ℤ◌};
-ghost use Rattle.doodson.specs.Doodson.{digit_in, multipliers_written, first, other, writable, read_doodson, write_doodson};
+ghost use Rattle.doodson.specs.Doodson.{digit_in, multipliers_in, multipliers_written, first, other, writable, read_doodson, write_doodson};
 ghost use Rattle.refusals.specs.Numbers.{tells};
 
 use arguments::Multipliers;
@@ -27,7 +27,7 @@ fn multiplier_of(digit: u32) -> i32
 }
 
 // The multipliers that a number's last six digits in a base write.
-pub fn multipliers_in<const BASE: u32>(number: u32) -> Multipliers
+pub fn multipliers_written<const BASE: u32>(number: u32) -> Multipliers
     requires { (2 ≤ BASE) × (BASE ≤ 16) }
     ensures { result ≡ multipliers_written BASE number }
 {
@@ -41,6 +41,13 @@ pub fn multipliers_in<const BASE: u32>(number: u32) -> Multipliers
     }
 }
 
+// The multipliers in a number's last six digits.
+pub fn multipliers_in(number: u32) -> Multipliers
+    ensures { result ≡ multipliers_in number }
+{
+    multipliers_written::<10>(number)
+}
+
 // Given: a Doodson number.
 // Answered: its six multipliers.
 // Refused: 10, a number above 999,999.
@@ -49,7 +56,7 @@ pub fn multipliers_of(number: u32) -> Result<Multipliers, Refusal>
     ensures { tells result ≡ read_doodson number }
 {
     if limits::is_doodson(number) {
-        Ok(multipliers_in::<10>(number))
+        Ok(multipliers_in(number))
     } else {
         Err(Refusal::NotDoodson)
     }

@@ -40,7 +40,7 @@ static SECOND: [i16; 49] = [
 ];
 
 // The row of printed line i.
-fn row(i: usize) -> (u32, i16, i16)
+pub fn row(i: usize) -> (u32, i16, i16)
     requires { i < 49 }
     ensures { result ≡ row_of (line_at i) }
 {
@@ -64,7 +64,7 @@ pub fn multipliers_at(i: usize) -> Multipliers
     requires { i < 49 }
     ensures { result ≡ multipliers_at i }
 {
-    doodson::multipliers_in::<16>(row(i).0)
+    doodson::multipliers_written::<16>(row(i).0)
 }
 
 // The band of a line, by its index.

@@ -6,6 +6,6 @@ use Rattle.lines.proofs.multipliers_at.Goals as goal
 
 pub returns : goal.returns
 returns c =
-    c.multipliers_in.ensures
+    c.multipliers_written.ensures
     ∙ ap (λ (r : ℕ × ℤ × ℤ). multipliers_written 16 r.0) c.row.ensures
     ∙ multipliers_read c.args.i c.requires
