@@ -23,7 +23,8 @@ pub trait Value {
         ensures { Puts page.old (text self.now) page.new };
 }
 
-// Puts a value's text at the end of its columns.
+// Puts a value's text at the end of its columns. Where it is inlined, a number's scale is a constant, and no division is left.
+#[inline(always)]
 pub fn put<V: Value + Drop>(page: &mut Page, columns: usize, value: V)
     requires room { HasRoom page.old columns }
     requires within { length (V.text value) ≤ columns }

@@ -1,9 +1,13 @@
 -- Spaces, last digits and columns: how long each is, and one more of each.
-use mathlib.Core.Path.{◌≡◌, refl}
+use mathlib.Core.Path.{◌≡◌, refl, sym, ap, ◌∙◌}
+use mathlib.Core.Bool.{Bool, true, false}
 use mathlib.Core.List.{List, [], ◌∷◌, ◌++◌}
 use Prim.Native.Nat.{ℕ, zero, suc, ◌+◌, ◌-◌, ◌/◌, ◌%◌, ◌^◌, ◌≤◌, ◌<◌}
 use native.Mathlib.Omega.{arith}
+use borrow.Author.Tests.{ltb-true, ltb-false}
+use lib.Dec.{ltb}
 use lib.ListN.{length, length-append, length-replicate}
+use Rattle.text.proofs.Decimals.{one_digit, last_digit}
 use Rattle.text.specs.Text.{ascii, digit, decimal, last_digits, fixed_point, spaces, padded}
 
 pub spaces_length : (count : ℕ) → length (spaces count) ≡ count
@@ -22,6 +26,19 @@ pub last_more : (count n : ℕ) → 0 < count → last_digits count n ≡ last_d
 unfolding last_digits
 last_more zero n h = absurd (omega arith)
 last_more (suc count) n h = let e : suc count - 1 ≡ count = omega arith in rw e refl
+
+-- as many as a number has in decimal are all of it
+digits_all : (m n : ℕ) (below : Bool) → ltb n 10 ≡ below → n ≤ m → last_digits (length (decimal n)) n ≡ decimal n
+unfolding last_digits
+digits_all m n true e h = let same : n % 10 ≡ n = omega (arith, ltb-true n 10 e) in rw (one_digit n (ltb-true n 10 e), same) refl
+digits_all zero n false e h = absurd (omega (arith, ltb-false n 10 e))
+digits_all (suc m) n false e h =
+    let more = last_digit n (ltb-false n 10 e) in
+    let long : length (decimal n) ≡ suc (length (decimal (n / 10))) = ap length more ∙ omega (arith, length-append (decimal (n / 10)) (digit (n % 10) ∷ [])) in
+    rw long (ap (λ (s : List ℕ). s ++ (digit (n % 10) ∷ [])) (digits_all m (n / 10) (ltb (n / 10) 10) refl (omega (arith, ltb-false n 10 e))) ∙ sym more)
+
+pub last_all : (n : ℕ) → last_digits (length (decimal n)) n ≡ decimal n
+last_all n = digits_all n n (ltb n 10) refl (omega arith)
 
 -- the whole part, the dot and the decimals
 pub fixed_length : (decimals n : ℕ) → length (fixed_point decimals n) ≡ length (decimal (n / 10 ^ decimals)) + 1 + decimals

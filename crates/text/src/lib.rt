@@ -57,10 +57,7 @@ impl<'a> Page<'a> {
         requires { HasRoom self.old (length (decimal n)) }
         ensures { Puts self.old (decimal n) self.new }
     {
-        if 10 <= n {
-            self.put_decimal(n / 10);
-        }
-        self.put_byte(b'0' + (n % 10) as u8);
+        self.put_last(digits_in(n), n);
     }
 
     // Puts a minus sign, or nothing.
@@ -88,11 +85,20 @@ impl<'a> Page<'a> {
         requires { HasRoom self.old count }
         ensures { Puts self.old (last_digits count n) self.new }
     {
-        if count == 0 {
-            return;
-        }
-        self.put_last(count - 1, n / 10);
-        self.put_byte(b'0' + (n % 10) as u8);
+        let after = self.at + count;
+        put_digits(&mut self.out[self.at..after], n);
+        self.at = after;
+    }
+}
+
+// Fills a text with a number's last digits, from the last one on.
+fn put_digits(text: &mut [u8], n: u64)
+    ensures { text.new ≡ last_digits (length text.old) n }
+{
+    if 0 < text.len() {
+        let last = text.len() - 1;
+        text[last] = b'0' + (n % 10) as u8;
+        put_digits(&mut text[..last], n / 10);
     }
 }
 

@@ -1,5 +1,0 @@
--- The tenth of the number is below it.
-use Rattle.text.proofs.Page.+put_decimal.Given as goal
-
-abbrev pub decreases-put_decimal : goal.decreases-put_decimal
-decreases-put_decimal l = l.n
