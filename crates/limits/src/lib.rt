@@ -10,7 +10,7 @@ const LEAST_DEGREE: u32 = 4;
 
 const LARGEST_DEGREE: u32 = 60;
 
-const LARGEST_ENTRY: u64 = 1 << 60;
+const LARGEST_ENTRY: i64 = 1 << 60;
 
 // In metres.
 const LEAST_DISTANCE: f64 = 100000000.0;
@@ -60,10 +60,11 @@ pub fn is_degree(n: u32) -> bool
     (LEAST_DEGREE..=LARGEST_DEGREE).contains(&n)
 }
 
+// By the range and not by the size, which takes half as long again where a field's entries are tested one by one.
 pub fn is_entry(z: i64) -> bool
     ensures { result ≡ is_entry z }
 {
-    z.unsigned_abs() <= LARGEST_ENTRY
+    (-LARGEST_ENTRY..=LARGEST_ENTRY).contains(&z)
 }
 
 pub fn is_distance(r: f64) -> bool
