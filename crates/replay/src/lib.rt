@@ -38,8 +38,11 @@ pub fn read_u32(input: &mut StdinLock) -> u32 {
     u32::from_le_bytes(read_array(input))
 }
 
+// Its two halves one after the other, each of which ends where the input does: a terminal's may go on after its end.
 pub fn read_u64(input: &mut StdinLock) -> u64 {
-    u64::from_le_bytes(read_array(input))
+    let low = u64::from(read_u32(input));
+    let high = u64::from(read_u32(input));
+    high << 32 | low
 }
 
 pub fn read_i32(input: &mut StdinLock) -> i32 {
@@ -47,7 +50,7 @@ pub fn read_i32(input: &mut StdinLock) -> i32 {
 }
 
 pub fn read_i64(input: &mut StdinLock) -> i64 {
-    i64::from_le_bytes(read_array(input))
+    read_u64(input).cast_signed()
 }
 
 pub fn read_f64(input: &mut StdinLock) -> f64 {
