@@ -1,5 +1,5 @@
 -- Digits and the numbers that they write.
-use Rattle.std.proofs.Common.{◌≡◌, ℕ, zero, suc, ◌+◌, ◌-◌, ◌*◌, ◌^◌, ◌<◌, ◌≤◌, Bool, true, false, not, ◌&&◌, ltb, List, [], ◌∷◌, ◌++◌, length, get_or, take, drop, sym, refl, ap, ◌∙◌, ap₂, mul-le-mul_right, pow-suc, add-one, arith, take-suc, lt-ltb}
+use Rattle.std.proofs.Common.{◌≡◌, ℕ, zero, suc, ◌+◌, ◌-◌, ◌*◌, ◌^◌, ◌<◌, ◌≤◌, Bool, true, false, not, ◌&&◌, ltb, List, [], ◌∷◌, ◌++◌, length, get_or, take, drop, sym, refl, ap, ◌∙◌, ap₂, mul-le-mul_right, pow-suc, add-one, arith, take-suc, lt-ltb, get_or-append-add}
 use native.Mathlib.Nat.{pow-zero}
 use Rattle.std.specs.List.{list_all}
 use lib.Seq.{split_at}
@@ -55,6 +55,12 @@ module _ (a b : List ℕ) (i : ℕ) (e : all_digits (a ++ b) ≡ true) where
   digit_behind h g =
       both_ends 48 57 (get_or b (i - length a) 0)
       (digit_at b (i - length a) (and_right (all_digits a) (all_digits b) (sym (digits_append a b) ∙ e)) (omega arith))
+
+-- what stands past the first of two texts
+pub joint_past : (a b : List ℕ) (i : ℕ) → length a ≤ i → get_or b (i - length a) 0 ≡ get_or (a ++ b) i 0
+joint_past a b i h =
+    let e : length a + (i - length a) ≡ i = omega arith in
+    sym (get_or-append-add a b (i - length a) 0) ∙ ap (λ (k : ℕ). get_or (a ++ b) k 0) e
 
 -- ---- their numbers
 pub read_append : (n : ℕ) (a b : List ℕ) → read_on n (a ++ b) ≡ read_on (read_on n a) b

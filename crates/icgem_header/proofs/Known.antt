@@ -6,7 +6,7 @@ use Prim.Native.Nat.{ℕ, zero, suc, ◌+◌, ◌<◌}
 use native.Mathlib.Omega.{arith}
 use borrow.Author.Tests.{le-leb, lt-leb}
 use lib.ListN.{length}
-use Rattle.std.specs.Prelude.{Option, Some, None, MatchOption, slice_get}
+use Rattle.std.specs.Prelude.{Option, Some, None, Ok, is_some, MatchOption, slice_get}
 use Rattle.std.specs.Borrow.{Bor}
 use Rattle.std.proofs.lemmas.Option.{slice_get_within, get_or_from_slice_get}
 use Rattle.icgem_decimal.proofs.Tests.{either, and_false}
@@ -19,7 +19,7 @@ use Rattle.icgem_decimal.specs.Decimal.{is_whole}
 use Rattle.icgem_words.specs.Words.{words, worded, same_word}
 use Rattle.icgem_file.specs.Header.{Word, Line, word_at, has, after, first, once, entry, kept, keyed, constant_name, constant_kept, is_constant, all_kept, all_there, all_taken}
 use Rattle.icgem_header.specs.declared.Cut.{Cut}
-use Rattle.icgem_header.specs.Inner.{CutAt, ValueIn, constant_required, words_fit, numbers_fit}
+use Rattle.icgem_header.specs.Inner.{CutAt, ValueIn, EntryRead, constant_required, words_fit, numbers_fit}
 use Rattle.icgem_header.specs.Read.{tells_system}
 
 slice_get_none : {A : Type 0} (l : List A) (i : ℕ) → slice_get l i ≡ None → length l < i + 1
@@ -113,6 +113,16 @@ module _ (key text : List ℕ) where
   unfolding system_said system_name same_word ascii
   system_is None f r h p = rw (h, none_first key (worded text) f) refl
   system_is (Some v) f r h p = p v h ∙ ap system_said f.1.value_is
+
+-- an entry that is read is there or not, stands as it should, and its value, none being empty, is the same word as the entry's
+abbrev pub given : Option (Bor (List ℕ)) → List ℕ
+given None = []
+given (Some value) = value.now
+
+pub kind_read : (key word text : List ℕ) (found : Option (Bor (List ℕ))) (same : Bool) → EntryRead key text (Ok found) → same ≡ same_word (given found) word
+    → (is_some found ≡ has key (worded text)) × ((kept key (worded text) ≡ true) × (same ≡ same_word (entry key (worded text)) word))
+kind_read key word text None same r s = (sym r.1, (r.0, s ∙ ap (λ (v : List ℕ). same_word v word) (sym (none_first key (worded text) r.1))))
+kind_read key word text (Some value) same r s = (sym r.1.0, (r.0, s ∙ ap (λ (v : List ℕ). same_word v word) r.1.1.value_is))
 
 -- ---- the entries with words and those with numbers are all
 fits : (p p' m e n t s u c c' r r' d d' w k l : Bool)

@@ -3,4 +3,5 @@ pub mod Sound
 pub mod Lines
 pub mod File
 pub mod Calls
+pub mod Copies
 pub mod OneResult
