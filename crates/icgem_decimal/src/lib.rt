@@ -245,8 +245,8 @@ pub fn in_units(word: &[u8], places: usize) -> Option<Decimal>
     requires word_len_bound { length word.now ≤ 131072 }
     ensures { Taken places word.now result }
 {
-    let exponent = exponent_of(word)?;
     let numeral = numeral_of(word)?;
+    let exponent = exponent_of(word)?;
     Some(Decimal {
         negative: is_minus(word),
         size: numeral.in_places(exponent, places),

@@ -58,7 +58,8 @@ pub struct Header<'a> {
 fn is_keyed(line: &[u8], key: &[u8]) -> bool
     ensures { result ≡ keyed key.now (words line.now) }
 {
-    icgem_words::same_word(icgem_words::next_word(line, 0).of(line), key)
+    // A word is no longer than its line.
+    key.len() <= line.len() && icgem_words::same_word(icgem_words::next_word(line, 0).of(line), key)
 }
 
 // The first line whose first word is the key.

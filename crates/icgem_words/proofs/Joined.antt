@@ -1,11 +1,11 @@
 -- Texts joined: what their pieces, lines and words are.
 use mathlib.Core.Path.{◌≡◌, refl, ap, ◌∙◌}
-use mathlib.Core.Bool.{Bool, true, false, not}
+use mathlib.Core.Bool.{Bool, true, false, not, cond}
 use mathlib.Core.List.{List, [], ◌∷◌, ◌++◌, map}
-use Prim.Native.Nat.{ℕ, ◌<◌}
+use Prim.Native.Nat.{ℕ, suc, ◌<◌, ◌≤◌}
 use native.Mathlib.Omega.{arith}
 use borrow.Author.Tests.{not-true}
-use lib.ListN.{length}
+use lib.ListN.{length, get_or}
 use Rattle.icgem_words.specs.Words.{on_first, pieces, nonempty, is_line_end, is_blank, lines, words, worded}
 use Rattle.icgem_words.specs.Inner.{all_of, none_of, ahead}
 use Rattle.icgem_words.proofs.Runs.{all_head, all_tail}
@@ -44,6 +44,29 @@ module _ {A : Type 0} where
   pub ahead_none : (piece : List A) (others : List (List A)) → length piece ≡ 0 → ahead piece others ≡ others
   ahead_none [] others h = refl
   ahead_none (x ∷ piece) others h = absurd (omega arith)
+
+-- ---- the first of them
+first_piece : (parts : ℕ → Bool) (text : List ℕ) → length (get_or (pieces parts text) 0 []) ≤ length text
+unfolding pieces on_first
+first_piece parts [] = omega arith
+first_piece parts (b ∷ text) = by_test (parts b) (pieces parts text) (first_piece parts text)
+  where
+    by_test : (t : Bool) (others : List (List ℕ)) → length (get_or others 0 []) ≤ length text → length (get_or (cond t ([] ∷ others) (on_first b others)) 0 []) ≤ suc (length text)
+    by_test true others h = omega arith
+    by_test false [] h = omega arith
+    by_test false (piece ∷ others) h = omega (arith, h)
+
+-- a text's first word is no longer than the text
+pub first_short : (text : List ℕ) → length (get_or (words text) 0 []) ≤ length text
+unfolding pieces on_first nonempty
+first_short [] = omega arith
+first_short (b ∷ text) = by_test (is_blank b) (pieces is_blank text) (first_piece is_blank text) (first_short text)
+  where
+    by_test : (t : Bool) (others : List (List ℕ)) → length (get_or others 0 []) ≤ length text → length (get_or (nonempty others) 0 []) ≤ length text
+        → length (get_or (nonempty (cond t ([] ∷ others) (on_first b others))) 0 []) ≤ suc (length text)
+    by_test true others h g = omega (arith, g)
+    by_test false [] h g = omega arith
+    by_test false (piece ∷ others) h g = omega (arith, h)
 
 -- ---- words
 pub words_none : words [] ≡ []

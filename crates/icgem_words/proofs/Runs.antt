@@ -5,8 +5,7 @@ use mathlib.Core.List.{List, [], ◌∷◌, ◌++◌}
 use Prim.Native.Nat.{ℕ, zero, suc, ◌+◌, ◌-◌, ◌≤◌, ◌<◌}
 use native.Mathlib.Omega.{arith}
 use lib.ListN.{length, get_or, take, drop, length-drop, take-append-drop}
-use lib.Seq.{take-suc, get_or-drop, drop-drop, take_all}
-use Rattle.std.specs.List.{HoldsAt, AllWithin}
+use lib.Seq.{take-suc, get_or-drop, drop-drop}
 use Rattle.whole.proofs.Tests.{and_left, and_right}
 use Rattle.icgem_words.specs.Inner.{part, all_of, RunTo, Run}
 
@@ -56,37 +55,3 @@ run_of test r is =
       passed = all_part test _ _ _ (omega (arith, r.low, r.within)) (λ k l g. sym (is k false (r.passed k l (omega (arith, r.low)))));
       stops = λ h. sym (is _ true (r.stops h));
     }
-
--- what a search among the bytes from a place on finds
-module _ (text : List ℕ) (from : ℕ) (h : from ≤ length text) where
-  rest : take (length text - from) (drop from text) ≡ drop from text
-  rest = take_all (length text - from) (drop from text) (omega (arith, length-drop from text))
-
-  passed_at : (ends : ℕ → Bool → Type 0) (n : ℕ) → AllWithin (λ x. ends x false) (drop from text) 0 n → (k : ℕ) → from ≤ k → k < from + n → ends (get_or text k 0) false
-  passed_at ends n a k l g =
-      let e : from + (k - from) ≡ k = omega arith in
-      let f : ends (get_or (drop from text) (k - from) 0) false = a (k - from) 0 (omega arith) (omega arith) in
-      rw (get_or-drop, e) at f
-
-  pub ends_at : (ends : ℕ → Bool → Type 0) (n : ℕ) → (n < length (take (length text - from) (drop from text))) × HoldsAt (λ x. ends x true) (take (length text - from) (drop from text)) n
-      × AllWithin (λ x. ends x false) (take (length text - from) (drop from text)) 0 n
-      → RunTo ends text from (from + n)
-  ends_at ends n found =
-      let f = rw rest at found in
-      let g : ends (get_or (drop from text) n 0) true = f.1 0 in
-      record {
-        low = omega arith;
-        within = omega (arith, f.0, length-drop from text);
-        passed = passed_at ends n f.2;
-        stops = λ _. rw get_or-drop at g;
-      }
-
-  pub ends_nowhere : (ends : ℕ → Bool → Type 0) → AllWithin (λ x. ends x false) (take (length text - from) (drop from text)) 0 (length (take (length text - from) (drop from text)))
-      → RunTo ends text from (length text)
-  ends_nowhere ends none =
-      record {
-        low = h;
-        within = omega arith;
-        passed = λ k l g. passed_at ends _ (rw rest at none) k l (omega (arith, length-drop from text));
-        stops = λ g. absurd (omega arith);
-      }

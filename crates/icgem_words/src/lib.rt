@@ -24,10 +24,9 @@ pub fn run_end<F: Fn(u8) -> bool>(text: &[u8], from: usize, ends: F) -> usize
     requires ends_callable { F.IsAlwaysCallable ends }
     ensures { RunTo (F.post ends) text.now from result }
 {
-    match text[from..].iter().position(|b| ends(*b)) {
-        Some(n) => from + n,
-        None => text.len(),
-    }
+    (from..text.len())
+        .find(|i| ends(text[*i]))
+        .unwrap_or(text.len())
 }
 
 // The first line end at or after a place, or the text's end.
