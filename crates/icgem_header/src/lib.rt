@@ -58,8 +58,13 @@ pub struct Header<'a> {
 fn is_keyed(line: &[u8], key: &[u8]) -> bool
     ensures { result ≡ keyed key.now (words line.now) }
 {
-    // A word is no longer than its line.
-    key.len() <= line.len() && icgem_words::same_word(icgem_words::next_word(line, 0).of(line), key)
+    // Most lines are shorter, or begin otherwise.
+    if line.len() < key.len() {
+        return false;
+    }
+    let from = icgem_words::run_end(line, 0, |b| !icgem_words::is_blank(b));
+    line[from..].starts_with(key)
+        && icgem_words::same_word(icgem_words::next_word(line, 0).of(line), key)
 }
 
 // The first line whose first word is the key.

@@ -45,11 +45,34 @@ module _ {A : Type 0} where
   ahead_none [] others h = refl
   ahead_none (x ∷ piece) others h = absurd (omega arith)
 
--- ---- the first of them
-first_piece : (parts : ℕ → Bool) (text : List ℕ) → length (get_or (pieces parts text) 0 []) ≤ length text
+-- ---- the first of them, which its text begins with
+first_piece : (parts : ℕ → Bool) (text : List ℕ) → (rest : List ℕ) × (text ≡ get_or (pieces parts text) 0 [] ++ rest)
 unfolding pieces on_first
-first_piece parts [] = omega arith
+first_piece parts [] = ([], refl)
 first_piece parts (b ∷ text) = by_test (parts b) (pieces parts text) (first_piece parts text)
+  where
+    by_test : (t : Bool) (others : List (List ℕ)) → (rest : List ℕ) × (text ≡ get_or others 0 [] ++ rest)
+        → (rest : List ℕ) × (b ∷ text ≡ get_or (cond t ([] ∷ others) (on_first b others)) 0 [] ++ rest)
+    by_test true others h = (b ∷ text, refl)
+    by_test false [] h = (h.0, ap (λ (xs : List ℕ). b ∷ xs) h.1)
+    by_test false (piece ∷ others) h = (h.0, ap (λ (xs : List ℕ). b ∷ xs) h.1)
+
+-- and the first word, where no blank stands before it
+pub first_word : (text : List ℕ) → (0 < length text → is_blank (get_or text 0 0) ≡ false) → (rest : List ℕ) × (text ≡ get_or (words text) 0 [] ++ rest)
+unfolding pieces on_first nonempty
+first_word [] h = ([], refl)
+first_word (b ∷ text) h = rw (h (omega arith)) (by_piece (pieces is_blank text) (first_piece is_blank text))
+  where
+    by_piece : (others : List (List ℕ)) → (rest : List ℕ) × (text ≡ get_or others 0 [] ++ rest)
+        → (rest : List ℕ) × (b ∷ text ≡ get_or (nonempty (on_first b others)) 0 [] ++ rest)
+    by_piece [] h = (h.0, ap (λ (xs : List ℕ). b ∷ xs) h.1)
+    by_piece (piece ∷ others) h = (h.0, ap (λ (xs : List ℕ). b ∷ xs) h.1)
+
+-- neither is longer than the text
+piece_short : (parts : ℕ → Bool) (text : List ℕ) → length (get_or (pieces parts text) 0 []) ≤ length text
+unfolding pieces on_first
+piece_short parts [] = omega arith
+piece_short parts (b ∷ text) = by_test (parts b) (pieces parts text) (piece_short parts text)
   where
     by_test : (t : Bool) (others : List (List ℕ)) → length (get_or others 0 []) ≤ length text → length (get_or (cond t ([] ∷ others) (on_first b others)) 0 []) ≤ suc (length text)
     by_test true others h = omega arith
@@ -60,7 +83,7 @@ first_piece parts (b ∷ text) = by_test (parts b) (pieces parts text) (first_pi
 pub first_short : (text : List ℕ) → length (get_or (words text) 0 []) ≤ length text
 unfolding pieces on_first nonempty
 first_short [] = omega arith
-first_short (b ∷ text) = by_test (is_blank b) (pieces is_blank text) (first_piece is_blank text) (first_short text)
+first_short (b ∷ text) = by_test (is_blank b) (pieces is_blank text) (piece_short is_blank text) (first_short text)
   where
     by_test : (t : Bool) (others : List (List ℕ)) → length (get_or others 0 []) ≤ length text → length (get_or (nonempty others) 0 []) ≤ length text
         → length (get_or (nonempty (cond t ([] ∷ others) (on_first b others))) 0 []) ≤ suc (length text)

@@ -8,11 +8,11 @@ use native.Mathlib.Omega.{arith}
 use borrow.Author.Tests.{not-false, ltb-true, ltb-false}
 use lib.Dec.{ltb}
 use lib.ListN.{length, get_or, drop, length-drop, drop_of_length-le}
-use lib.Seq.{drop-cons, length-take-le}
+use lib.Seq.{drop-cons, get_or-drop, length-take-le}
 use Rattle.icgem_words.specs.Words.{pieces, nonempty, is_blank, lines, words, worded}
 use Rattle.icgem_words.specs.Inner.{part, ahead, in_line, in_word, Run, NextWord}
 use Rattle.icgem_words.proofs.Runs.{cut}
-use Rattle.icgem_words.proofs.Joined.{nonempty_first, ahead_some, ahead_none, words_none, words_blank, words_blanks, words_last, words_then}
+use Rattle.icgem_words.proofs.Joined.{nonempty_first, first_word, ahead_some, ahead_none, words_none, words_blank, words_blanks, words_last, words_then}
 use Rattle.icgem_words.proofs.Joined.{lines_last, lines_then}
 
 -- what stands from a place on: its byte and the rest
@@ -70,6 +70,13 @@ module _ {text : List ℕ} {from to : ℕ} (r : Run in_line text from to) where
 -- ---- words
 pub words_past : (line : List ℕ) (at : ℕ) → length line ≤ at → words (drop at line) ≡ []
 words_past line at h = rw (drop_of_length-le line h, words_none)
+
+-- blanks before the first word
+pub first_begins : {line : List ℕ} {from : ℕ} → Run is_blank line 0 from → (rest : List ℕ) × (drop from line ≡ get_or (words line) 0 [] ++ rest)
+first_begins {line} {from} r =
+    let zero : from + 0 ≡ from = omega arith in
+    let e : words line ≡ words (drop from line) = ap words (cut line 0 from r.low) ∙ words_blanks (part 0 from line) (drop from line) r.passed in
+    rw e (first_word (drop from line) (λ h. rw (get_or-drop, zero) (r.stops (omega (arith, h, length-drop from line)))))
 
 -- blanks, and then the bytes of a word
 module _ {line : List ℕ} {at from to : ℕ} (blanks : Run is_blank line at from) (word : Run in_word line from to) where
